@@ -1,0 +1,4 @@
+pub mod Limits
+pub mod Round
+pub mod Rearrange
+pub mod Mix

@@ -1,0 +1,48 @@
+-- States the call mix (01, The four calls; refusals 1, 3 and 9): its answer, and what it leaves in the lent layers.
+use Prim.Native.Nat.{ℕ}
+use mathlib.Core.Bool.{Bool, true, false, cond, not, _&&_, _||_}
+use mathlib.Core.List.{List}
+use lib.ListN.{length, replicate}
+use lib.Dec.{eqb, leb, ltb}
+use lib.Ieee.{Float, lt}
+use lib.Ieee.Scale.{finite}
+use Rattle.numeric.specs.Double.{zero-f}
+use Rattle.mixing.specs.Limits.{maxLayers}
+use Rattle.mixing.specs.Rearrange.{Mixing, sorted, unsorted, rearrange}
+use Rattle.mixing.specs.declared.MixAnswer.{MixAnswer}
+use Rattle.mixing.specs.declared.MixAnswer.the-variants.{Mixed, Refused}
+
+-- the number of 01's refusal, 0 where the mix is accepted
+abbrev pub numberOf : MixAnswer → ℕ
+numberOf (Mixed rounds) = 0
+numberOf (Refused number) = number
+
+-- the rounds run, 0 where the mix is refused
+abbrev pub roundsOf : MixAnswer → ℕ
+roundsOf (Mixed rounds) = rounds
+roundsOf (Refused number) = 0
+
+-- what a mixing answers, and what it leaves of the temperatures it was lent: a refused one leaves them as they were
+abbrev pub answerOf : Mixing → MixAnswer
+answerOf (sorted after k) = Mixed k
+answerOf unsorted = Refused 9
+
+abbrev pub tempsOf : List Float → Mixing → List Float
+tempsOf temps (sorted after k) = after
+tempsOf temps unsorted = temps
+
+-- 1: the layers are none or more than 32; 3: the layer volume is not finite and above zero
+unfoldable pub mixRefusal : List Float → Float → ℕ
+mixRefusal layers volume =
+    cond (eqb (length layers) 0 || ltb maxLayers (length layers)) 1
+    (cond (finite volume && lt zero-f volume) 0 3)
+
+-- the mixing that a call works where 1 and 3 let it pass: all layers have the one volume
+abbrev pub mixing : List Float → Float → Mixing
+mixing layers volume = rearrange (length layers) (replicate maxLayers volume) layers
+
+abbrev pub mixAnswer : List Float → Float → MixAnswer
+mixAnswer layers volume = cond (eqb (mixRefusal layers volume) 0) (answerOf (mixing layers volume)) (Refused (mixRefusal layers volume))
+
+abbrev pub mixLayers : List Float → Float → List Float
+mixLayers layers volume = cond (eqb (mixRefusal layers volume) 0) (tempsOf layers (mixing layers volume)) layers

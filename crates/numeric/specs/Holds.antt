@@ -1,0 +1,55 @@
+-- States a loop that tests each place and leaves at the first that fails, as a recursion, and proves the laws that such loops cite.
+-- `holds p k i` says that p holds of k places from i on.
+use Prim.Native.Nat.{ℕ, zero, suc, _+_, _-_, _≤_, _<_}
+use native.Mathlib.Omega.{arith}
+use native.Mathlib.Nat.{sub-zero, eq-or-lt-of-le, add-zero}
+use mathlib.Core.Logic.{⊎-elim}
+use mathlib.Core.Path.{_≡_, refl, sym}
+use mathlib.Core.Bool.{Bool, true, false, _&&_, true≢false}
+
+and-true : (a b : Bool) → (a && b) ≡ true → (a ≡ true) × (b ≡ true)
+and-true true b h = (refl, h)
+and-true false b h = absurd (true≢false (sym h))
+
+module _ (p : ℕ → Bool) where
+  unfoldable pub holds : ℕ → ℕ → Bool
+  holds zero i = true
+  holds (suc k) i = p i && holds k (i + 1)
+
+  -- the invariant of a loop over the places below n: none of those passed failed
+  abbrev pub Passed : ℕ → ℕ → Type 0
+  Passed n i = (i ≤ n) × (holds (n - i) i ≡ holds n 0)
+
+  pub passed-start : (n : ℕ) → Passed n 0
+  passed-start n = (omega arith, rw sub-zero)
+
+  next : (n i : ℕ) → i < n → Passed n i → (p i && holds (n - (i + 1)) (i + 1)) ≡ holds n 0
+  unfolding holds
+  next n i h r =
+      let e : n - i ≡ suc (n - (i + 1)) = omega arith in
+      rw e at (r .1)
+
+  pub passed-turn : (n i : ℕ) → i < n → p i ≡ true → Passed n i → Passed n (i + 1)
+  passed-turn n i h t r = (omega arith, rw t at (next n i h r))
+
+  pub passed-fails : (n i : ℕ) → i < n → p i ≡ false → Passed n i → false ≡ holds n 0
+  passed-fails n i h t r = rw t at (next n i h r)
+
+  pub passed-end : (n i : ℕ) → n ≤ i → Passed n i → true ≡ holds n 0
+  unfolding holds
+  passed-end n i h r =
+      let e : n - i ≡ 0 = omega arith in
+      rw e at (r .1)
+
+  -- what the whole says of each place, and what each place says of the whole
+  pub holds-at : (k i : ℕ) → holds k i ≡ true → (j : ℕ) → i ≤ j → j < i + k → p j ≡ true
+  unfolding holds
+  holds-at zero i h j l u = absurd (omega arith)
+  holds-at (suc k) i h j l u =
+      let both = and-true (p i) (holds k (i + 1)) h in
+      ⊎-elim (λ e. rw (← e) (both .0)) (λ lt. holds-at k (i + 1) (both .1) j (omega arith) (omega arith)) (eq-or-lt-of-le l)
+
+  pub at-holds : (k i : ℕ) → ((j : ℕ) → i ≤ j → j < i + k → p j ≡ true) → holds k i ≡ true
+  unfolding holds
+  at-holds zero i h = refl
+  at-holds (suc k) i h = rw (h i (omega arith) (omega arith)) (at-holds k (i + 1) (λ j l u. h j (omega arith) (omega arith)))
