@@ -6,3 +6,4 @@ pub mod Holds
 pub mod Tabulate
 pub mod Sum2
 pub mod Whole
+pub mod Places

@@ -1,0 +1,9 @@
+-- States the temperature of cold water (01, Arithmetic underneath): the source answers one pair, (feed temperature, volume wanted).
+use mathlib.Core.List.{[], _∷_}
+use lib.Ieee.{Float}
+use Rattle.numeric.specs.Double.{_⊛_, _⊘_}
+use Rattle.numeric.specs.Sum2.{sum2}
+
+-- Cold(v): Sum2 of the one term feed × v over Sum2 of v, which need not be the feed's own temperature
+unfoldable pub cold : Float → Float → Float
+cold feed v = sum2 (feed ⊛ v ∷ []) ⊘ sum2 (v ∷ [])

@@ -1,0 +1,3 @@
+pub mod Cold
+pub mod Draw
+pub mod Refill

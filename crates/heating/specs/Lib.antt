@@ -1,0 +1,5 @@
+pub mod Switch
+pub mod Heat
+pub mod Losses
+pub mod Supply
+pub mod Turn

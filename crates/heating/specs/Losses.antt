@@ -1,0 +1,77 @@
+-- States `calc_temps_after_thermal_losses` (01, Losses and limit). `before` are the layers on which the heater's turn began, `mixed` those that its mixing
+-- left, `charged` what earlier heaters charged each layer this step.
+use Prim.Native.Nat.{ℕ, _-_}
+use mathlib.Core.Bool.{Bool, cond, not, _&&_}
+use mathlib.Core.List.{List}
+use lib.ListN.{getD}
+use lib.Ieee.{Float, nan, lt}
+use Rattle.numeric.specs.Double.{_⊕_, _⊖_, _⊛_, _⊘_, zero-f, whole}
+use Rattle.numeric.specs.Compare.{minOf2, maxOf2}
+use Rattle.numeric.specs.Close.{wideClose}
+use Rattle.numeric.specs.Turns.{turns}
+use Rattle.numeric.specs.Tabulate.{tabulate}
+use Rattle.numeric.specs.Places.{updateFirst}
+use Rattle.numeric.specs.Sum2.{sum2}
+use Rattle.cylinder.specs.declared.Cylinder.{Cylinder}
+use Rattle.cylinder.specs.Layers.{heatCapacity}
+use Rattle.heating.specs.declared.SetPoints.{SetPoints}
+use Rattle.heating.specs.Switch.{hasUpper, upperOf}
+
+-- t is above u and not wide-close to it
+unfoldable pub clearlyAbove : Float → Float → Bool
+clearlyAbove t u = lt u t && not (wideClose t u)
+
+-- t is above the upper set point and not wide-close to it
+unfoldable pub overUpper : SetPoints → Float → Bool
+overUpper p t = hasUpper p && clearlyAbove t (upperOf p)
+
+-- h = (1000 × standby) / (24 × 45), the stand-by losses coefficient
+unfoldable pub standbyCoefficient : Cylinder → Float
+standbyCoefficient c = whole 1000 ⊛ c .standby ⊘ (whole 24 ⊛ whole 45)
+
+module _ (c : Cylinder) (vol : List Float) (p : SetPoints) (before mixed charged : List Float) where
+  -- a layer is warmed if it is above its temperature before heating and not wide-close to it
+  unfoldable pub warmed : ℕ → Bool
+  warmed k = clearlyAbove (getD mixed k nan) (getD before k nan)
+
+  -- a warmed layer is counted at no more than the upper set point
+  unfoldable pub countedTemp : ℕ → Float
+  countedTemp k = cond (hasUpper p && warmed k) (minOf2 (getD mixed k nan) (upperOf p)) (getD mixed k nan)
+
+  -- (h × density × specific heat) × (layer volume / volume) × (temperature - ambient) × step length
+  unfoldable pub standingLoss : ℕ → Float
+  standingLoss k =
+      standbyCoefficient c ⊛ c .rho ⊛ c .cp ⊛ (getD vol k nan ⊘ c .volume) ⊛ (countedTemp k ⊖ c .ambient) ⊛ c .timestep
+
+  -- less what earlier heaters charged it, then `max_of_2` of 0 and that
+  unfoldable pub loss : ℕ → Float
+  loss k = maxOf2 zero-f (standingLoss k ⊖ getD charged k nan)
+
+  -- the heater's losses, over all layers
+  unfoldable pub losses : Float
+  losses = sum2 (tabulate loss (c .layers) 0)
+
+  -- a warmed layer over the upper set point ends exactly there; any other drops by loss / (density × specific heat × layer volume)
+  unfoldable pub limitedTemp : ℕ → Float → Float
+  limitedTemp k t = cond (warmed k && overUpper p t) (upperOf p) (t ⊖ loss k ⊘ heatCapacity c vol k)
+
+  unfoldable pub tempsAfter : List Float
+  tempsAfter = updateFirst limitedTemp (c .layers) mixed
+
+  unfoldable pub chargedAfter : List Float
+  chargedAfter = updateFirst (λ (k : ℕ) (x : Float). x ⊕ loss k) (c .layers) charged
+
+  -- heat - loss - heat at the set point
+  unfoldable pub surplusTerm : ℕ → Float
+  surplusTerm k = heatCapacity c vol k ⊛ getD mixed k nan ⊖ loss k ⊖ heatCapacity c vol k ⊛ upperOf p
+
+  -- added plainly from the heater's layer up, if that layer is over the upper set point; else 0
+  unfoldable pub surplus : ℕ → Float
+  surplus layer =
+      cond (overUpper p (getD mixed layer nan))
+      (turns (λ (k : ℕ) (s : Float). s ⊕ surplusTerm k) (c .layers - layer) layer zero-f)
+      zero-f
+
+-- adjusted: `max_of_2` of 0 and `min_of_2` of input - surplus and input, or 0 if input is not above zero
+unfoldable pub adjusted : Float → Float → Float
+adjusted input over = cond (lt zero-f input) (maxOf2 zero-f (minOf2 (input ⊖ over) input)) zero-f

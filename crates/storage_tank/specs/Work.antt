@@ -1,0 +1,256 @@
+-- States one step's work (01, Step; Turn; refusals 9 and 10) from the fixed numbers, the state and the step's arguments, and keeps its history: the events, the
+-- turns, and where it ended. The step's answer is made from that end (Calls.antt).
+use Prim.Native.Nat.{ℕ, zero, suc, _-_}
+use mathlib.Core.Bool.{Bool, true, false, cond, _&&_}
+use mathlib.Core.List.{List, [], _∷_, _++_}
+use lib.ListN.{getD, set, replicate}
+use lib.Ieee.{Float, nan}
+use lib.Ieee.Scale.{finite}
+use Rattle.numeric.specs.Double.{dbl, _⊕_, _⊛_, _⊘_, zero-f}
+use Rattle.numeric.specs.Close.{wideClose}
+use Rattle.numeric.specs.Tabulate.{tabulate}
+use Rattle.mixing.specs.Limits.{maxLayers}
+use Rattle.mixing.specs.Rearrange.{Mixing, sorted, unsorted, rearrange}
+use Rattle.cylinder.specs.declared.Cylinder.{Cylinder}
+use Rattle.cylinder.specs.Layers.{layerVolumes, allFinite}
+use Rattle.draw_off.specs.Draw.{Draw, extract, volumeUsed}
+use Rattle.draw_off.specs.Refill.{Refill, refill}
+use Rattle.heating.specs.declared.SetPoints.{SetPoints}
+use Rattle.heating.specs.Turn.{Turned, turn}
+use Rattle.storage_tank.specs.declared.HeaterLine.{HeaterLine}
+use Rattle.storage_tank.specs.declared.Step.{Step}
+use Rattle.storage_tank.specs.Limits.{maxHeaters}
+use Rattle.storage_tank.specs.Fixed.{Fixed, State, immersionOf}
+use Rattle.storage_tank.specs.Order.{workingOrder}
+use Rattle.storage_tank.specs.Checks.{pointsOf, stepRefusal}
+
+-- ---- what has happened
+
+-- where a step's work has come to: the layers, the totals of the draw, the average draw-off temperature, the flags, what each layer was charged with, the
+-- heaters' losses, and the heaters' lines
+pub record Progress : Type 0 where
+  pub temps : List Float
+  pub energy : Float
+  pub used : Float
+  pub weighted : Float
+  pub drawn : Float
+  pub average : Float
+  pub flags : List Bool
+  pub charged : List Float
+  pub losses : Float
+  pub lines : List HeaterLine
+
+-- an event ends in a mixing, or does not
+pub data EventMixing : Type 0 where
+  unmixed : EventMixing
+  mixed : Mixing → EventMixing
+
+-- a draw event: the volume wanted, the layers before it, its draw, its refill and its mixing
+pub record Event : Type 0 where
+  pub wanted : Float
+  pub before : List Float
+  pub draw : Draw
+  pub refill : Refill
+  pub mixing : EventMixing
+
+-- a turn: whose, with which set points, the layers before it, the thermostat layer where it began, what it came to, and the thermostat layer where it ended
+pub record Turn : Type 0 where
+  pub heater : ℕ
+  pub points : SetPoints
+  pub before : List Float
+  pub start : Float
+  pub turned : Turned
+  pub finish : Float
+
+-- a step's work ends with the number of a refusal, or with all done
+pub data End : Type 0 where
+  refused : ℕ → End
+  done : Progress → End
+
+pub record Work : Type 0 where
+  pub events : List Event
+  pub turns : List Turn
+  pub end : End
+
+-- nothing was worked
+abbrev pub stop : ℕ → Work
+stop n = record { events = []; turns = []; end = refused n }
+
+abbrev pub nothingMore : Progress → Work
+nothingMore s = record { events = []; turns = []; end = done s }
+
+-- what was worked, and then what is worked from where it ended
+unfoldable pub resume : List Event → List Turn → End → (Progress → Work) → Work
+resume es us (refused n) f = record { events = es; turns = us; end = refused n }
+resume es us (done s) f = let w = f s in record { events = es ++ w .events; turns = us ++ w .turns; end = w .end }
+
+unfoldable pub andThen : Work → (Progress → Work) → Work
+andThen w f = resume (w .events) (w .turns) (w .end) f
+
+-- 10, unless all that is looked at is finite
+unfoldable pub unlessInfinite : Bool → Progress → End
+unlessInfinite true s = done s
+unlessInfinite false s = refused 10
+
+-- ---- a draw event
+
+unfoldable pub eventMixing : Bool → Cylinder → List Float → EventMixing
+eventMixing false c temps = unmixed
+eventMixing true c temps = mixed (rearrange (c .layers) (layerVolumes c) temps)
+
+unfoldable pub eventOf : Cylinder → Float → Float → Progress → Event
+eventOf c feed wanted s =
+    let draw = extract c (layerVolumes c) feed (s .temps) wanted (s .weighted) (s .drawn) in
+    let filled = refill (c .layers) (layerVolumes c) feed (s .temps) (draw .held) in
+    record { wanted = wanted; before = s .temps; draw = draw; refill = filled; mixing = eventMixing (filled .mixes) c (filled .temps) }
+
+-- an event's energy and volume used are its own sums, added to the step's when it ends
+unfoldable pub afterEvent : Cylinder → Draw → List Float → Progress → Progress
+afterEvent c draw temps s = record {
+  temps = temps;
+  energy = s .energy ⊕ draw .energy;
+  used = s .used ⊕ volumeUsed c (draw .held);
+  weighted = draw .weighted;
+  drawn = draw .drawn;
+  average = s .average;
+  flags = s .flags;
+  charged = s .charged;
+  losses = s .losses;
+  lines = s .lines;
+}
+
+-- a layer, or energy or volume used so far, after an event
+abbrev pub eventFinite : Cylinder → Progress → Bool
+eventFinite c s = allFinite (c .layers) (s .temps) && finite (s .energy) && finite (s .used)
+
+abbrev pub checkedEvent : Cylinder → Progress → End
+checkedEvent c s = unlessInfinite (eventFinite c s) s
+
+-- a refused mixing (9) comes before 10
+unfoldable pub eventEnd : Cylinder → Progress → Event → EventMixing → End
+eventEnd c s e unmixed = checkedEvent c (afterEvent c (e .draw) (e .refill .temps) s)
+eventEnd c s e (mixed unsorted) = refused 9
+eventEnd c s e (mixed (sorted temps k)) = checkedEvent c (afterEvent c (e .draw) temps s)
+
+unfoldable pub event : Cylinder → Float → Float → Progress → Work
+event c feed wanted s =
+    let e = eventOf c feed wanted s in
+    record { events = e ∷ []; turns = []; end = eventEnd c s e (e .mixing) }
+
+unfoldable pub events : Cylinder → Float → List Float → Progress → Work
+events c feed [] s = nothingMore s
+events c feed (v ∷ vs) s = andThen (event c feed v s) (λ s'. events c feed vs s')
+
+-- the volumes of the step's events
+abbrev pub wantedVolumes : Step → List Float
+wantedVolumes a = tabulate (λ (i : ℕ). getD (a .volumes) i nan) (a .events) 0
+
+-- weighted sum / volume drawn, or the top layer after the events if that volume is wide-close to 0
+unfoldable pub averageOf : Cylinder → Progress → Float
+averageOf c s = cond (wideClose (s .drawn) zero-f) (getD (s .temps) (c .layers - 1) nan) (s .weighted ⊘ s .drawn)
+
+unfoldable pub withAverage : Cylinder → Progress → Progress
+withAverage c s = record {
+  temps = s .temps;
+  energy = s .energy;
+  used = s .used;
+  weighted = s .weighted;
+  drawn = s .drawn;
+  average = averageOf c s;
+  flags = s .flags;
+  charged = s .charged;
+  losses = s .losses;
+  lines = s .lines;
+}
+
+-- ---- a heater's turn
+
+unfoldable pub turnOf : Fixed → Step → ℕ → Progress → Turn
+turnOf f a h s =
+    let c = f .cylinder in
+    let x = immersionOf f h in
+    let u = turn c (layerVolumes c) x (pointsOf a h) (s .temps) (s .charged) (getD (s .flags) h false) in
+    record {
+      heater = h;
+      points = pointsOf a h;
+      before = s .temps;
+      start = getD (s .temps) (x .thermostat) nan;
+      turned = u;
+      finish = getD (u .temps) (x .thermostat) nan;
+    }
+
+abbrev pub lineOf : Turned → HeaterLine
+lineOf u = record { flag = u .flag; adjusted = u .adjusted; supplied = u .supplied; losses = u .losses; rounds = u .rounds }
+
+unfoldable pub afterTurn : Turn → Progress → Progress
+afterTurn u s = record {
+  temps = u .turned .temps;
+  energy = s .energy;
+  used = s .used;
+  weighted = s .weighted;
+  drawn = s .drawn;
+  average = s .average;
+  flags = set (s .flags) (u .heater) (u .turned .flag);
+  charged = u .turned .charged;
+  losses = s .losses ⊕ u .turned .losses;
+  lines = set (s .lines) (u .heater) (lineOf (u .turned));
+}
+
+-- a layer or its figures after a heater's turn
+abbrev pub turnFinite : Cylinder → Turned → Bool
+turnFinite c u = allFinite (c .layers) (u .temps) && finite (u .adjusted) && finite (u .supplied) && finite (u .losses)
+
+unfoldable pub turnEnd : Cylinder → Progress → Turn → Mixing → End
+turnEnd c s u unsorted = refused 9
+turnEnd c s u (sorted temps k) = unlessInfinite (turnFinite c (u .turned)) (afterTurn u s)
+
+unfoldable pub heaterTurn : Fixed → Step → ℕ → Progress → Work
+heaterTurn f a h s =
+    let u = turnOf f a h s in
+    record { events = []; turns = u ∷ []; end = turnEnd (f .cylinder) s u (u .turned .mixing) }
+
+unfoldable pub turns : Fixed → Step → List ℕ → Progress → Work
+turns f a [] s = nothingMore s
+turns f a (h ∷ hs) s = andThen (heaterTurn f a h s) (λ s'. turns f a hs s')
+
+-- ---- a step
+
+abbrev pub zeroLine : HeaterLine
+zeroLine = record { flag = false; adjusted = zero-f; supplied = zero-f; losses = zero-f; rounds = 0 }
+
+unfoldable pub opening : State → Progress
+opening st = record {
+  temps = st .temps;
+  energy = zero-f;
+  used = zero-f;
+  weighted = zero-f;
+  drawn = zero-f;
+  average = zero-f;
+  flags = st .flags;
+  charged = replicate maxLayers zero-f;
+  losses = zero-f;
+  lines = replicate maxHeaters zeroLine;
+}
+
+-- recoverable = the heaters' losses added plainly × 0.75
+unfoldable pub recoverable : Progress → Float
+recoverable s = s .losses ⊛ dbl 0x3fe8_0000_0000_0000
+
+-- average or recoverable at the end
+unfoldable pub closed : End → End
+closed (refused n) = refused n
+closed (done s) = unlessInfinite (finite (s .average) && finite (recoverable s)) s
+
+abbrev pub closing : Work → Work
+closing w = record { events = w .events; turns = w .turns; end = closed (w .end) }
+
+abbrev pub allTurns : Fixed → Step → Progress → Work
+allTurns f a s = turns f a (workingOrder f) (withAverage (f .cylinder) s)
+
+-- the first refusal of the checks, and else the events and then the heaters in turn
+unfoldable pub begin : Fixed → State → Step → ℕ → Work
+begin f st a (suc n) = stop (suc n)
+begin f st a zero = closing (andThen (events (f .cylinder) (a .feed) (wantedVolumes a) (opening st)) (λ s. allTurns f a s))
+
+unfoldable pub work : Fixed → State → Step → Work
+work f st a = begin f st a (stepRefusal f st a)
