@@ -5,3 +5,6 @@ pub mod Checks
 pub mod Work
 pub mod History
 pub mod Calls
+pub mod Members
+pub mod Course
+pub mod Demand
