@@ -7,7 +7,7 @@ use lib.ListN.{getD}
 use lib.Ieee.{Float, nan, le}
 use Rattle.numeric.specs.Holds.{holds}
 use Rattle.mixing.specs.Limits.{maxRounds}
-use Rattle.mixing.specs.Round.{round}
+use Rattle.mixing.specs.Round.{oneRound}
 
 -- a layer is at most the one above it
 abbrev pub rises : List Float → ℕ → Bool
@@ -28,7 +28,7 @@ rounds zero true k n vol temps = sorted temps k
 rounds zero false k n vol temps = unsorted
 rounds (suc left) true k n vol temps = sorted temps k
 rounds (suc left) false k n vol temps =
-    let next = round n vol temps in
+    let next = oneRound n vol temps in
     rounds left (isSorted n next) (k + 1) n vol next
 
 -- before the first round the layers count as out of order, so that it always runs

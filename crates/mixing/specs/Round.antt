@@ -49,5 +49,5 @@ pair n vol i w =
     (record { temps = w .temps; bottom = i + 1 })
 
 -- one round: the pairs from the bottom up
-unfoldable pub round : ℕ → List Float → List Float → List Float
-round n vol temps = turns (pair n vol) (n - 1) 0 (record { temps = temps; bottom = 0 }) .temps
+unfoldable pub oneRound : ℕ → List Float → List Float → List Float
+oneRound n vol temps = turns (pair n vol) (n - 1) 0 (record { temps = temps; bottom = 0 }) .temps

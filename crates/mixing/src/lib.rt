@@ -1,3 +1,5 @@
-// The mixing of layers: `rearrange_temperatures`, and the call `mix`.
-pub mod mix;
-pub mod rearrange;
+// What the call `mix` answers: the rounds run, or the number of 01's refusal.
+pub enum MixAnswer {
+    Mixed(usize),
+    Refused(u8),
+}
