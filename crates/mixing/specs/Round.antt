@@ -1,6 +1,6 @@
 -- States one round of `rearrange_temperatures` (01, Mix) over n layers: `vol` holds each layer's volume, `temps` its temperature, the bottom first.
 -- The running group is the layers from `bottom` up to the pair; it is a range, since a round walks upward and a pair that does not join ends the group.
-use Prim.Native.Nat.{ℕ, zero, suc, _+_, _-_}
+use Prim.Native.Nat.{ℕ, _+_, _-_}
 use mathlib.Core.Bool.{Bool, cond, _&&_, _||_}
 use mathlib.Core.List.{List}
 use lib.ListN.{getD, set}

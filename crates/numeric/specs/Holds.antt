@@ -2,7 +2,7 @@
 -- `holds p k i` says that p holds of k places from i on.
 use Prim.Native.Nat.{ℕ, zero, suc, _+_, _-_, _≤_, _<_}
 use native.Mathlib.Omega.{arith}
-use native.Mathlib.Nat.{sub-zero, eq-or-lt-of-le, add-zero}
+use native.Mathlib.Nat.{sub-zero, eq-or-lt-of-le}
 use mathlib.Core.Logic.{⊎-elim}
 use mathlib.Core.Path.{_≡_, refl, sym}
 use mathlib.Core.Bool.{Bool, true, false, _&&_, true≢false}

@@ -2,7 +2,7 @@
 -- proofs/Whole.antt shows that this is the whole part of the rounded product, which is what the Rust's cast gives.
 use mathlib.Core.Bool.{cond}
 use mathlib.Core.Path.{_≡_}
-use Prim.Native.Nat.{ℕ, zero, suc, _-_, _<_, _≤_}
+use Prim.Native.Nat.{ℕ, zero, suc, _-_, _<_}
 use native.Mathlib.Numerals.{sub-one}
 use native.Mathlib.Omega.{arith}
 use lib.Ieee.{Float, le}

@@ -1,0 +1,24 @@
+// `min_of_2` and `max_of_2` of compare_floats.rs, and whether a double is finite.
+ghost use mathlib.Core.Path.{_≡_};
+ghost use lib.Ieee.Scale.{finite};
+ghost use Rattle.numeric.specs.Compare.{minOf2, maxOf2};
+
+pub fn min_of_2(first: f64, second: f64) -> f64
+    ensures { λ r. ⌜ r ≡ minOf2 first second ⌝ }
+{
+    if first < second { first } else { second }
+}
+
+pub fn max_of_2(first: f64, second: f64) -> f64
+    ensures { λ r. ⌜ r ≡ maxOf2 first second ⌝ }
+{
+    if first > second { first } else { second }
+}
+
+// Neither infinite nor not-a-number: strictly between the infinities.
+pub fn is_finite(x: f64) -> bool
+    ensures { λ r. ⌜ r ≡ finite x ⌝ }
+{
+    let infinity = 1.0 / 0.0;
+    if x < infinity { -infinity < x } else { false }
+}
