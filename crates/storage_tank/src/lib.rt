@@ -3,6 +3,7 @@ use heating::SetPoints;
 
 // The most heaters that a tank has, and the most draw events that a step has.
 pub const MAX_HEATERS: usize = 8;
+
 pub const MAX_EVENTS: usize = 64;
 
 // An immersion heater: its rated power (kW), its position, 0 at the bottom of the tank and 1 at its top, and its thermostat's, where it has one of its own.
