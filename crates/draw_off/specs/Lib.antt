@@ -1,3 +1,4 @@
 pub mod Cold
 pub mod Draw
 pub mod Refill
+pub mod Event

@@ -1,1 +1,9 @@
-// The draw and the refill of one event: `extract_hot_water` and `calc_temps_after_extraction`.
+// The draw events of a step: `extract_hot_water`, `calc_temps_after_extraction`, and the mixing of an event that warms the tank from below.
+
+// What a step has drawn so far: the energy withdrawn (kWh), the volume used (litres), the temperatures weighted by volume, and the volume drawn.
+pub struct Totals {
+    pub energy: f64,
+    pub used: f64,
+    pub weighted: f64,
+    pub drawn: f64,
+}

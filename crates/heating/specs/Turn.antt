@@ -1,14 +1,16 @@
 -- States one turn of a heater (01, Turn): from its switch-on to its switch-off in one step, with that step's set points.
 use Prim.Native.Nat.{ℕ}
-use mathlib.Core.Bool.{Bool, false}
+use mathlib.Core.Bool.{Bool, cond, _&&_}
 use mathlib.Core.List.{List}
 use lib.ListN.{getD}
 use lib.Ieee.{Float, nan}
+use lib.Ieee.Scale.{finite}
 use Rattle.numeric.specs.Double.{_⊛_}
 use Rattle.numeric.specs.Tabulate.{tabulate}
 use Rattle.numeric.specs.Sum2.{sum2}
 use Rattle.mixing.specs.Rearrange.{Mixing, sorted, unsorted, rearrange}
 use Rattle.cylinder.specs.declared.Cylinder.{Cylinder}
+use Rattle.cylinder.specs.Layers.{allFinite}
 use Rattle.heating.specs.declared.SetPoints.{SetPoints}
 use Rattle.heating.specs.Switch.{switchOn, switchOff}
 use Rattle.heating.specs.Heat.{offer, heated}
@@ -84,3 +86,15 @@ module _ (c : Cylinder) (vol : List Float) (h : Immersion) (p : SetPoints) (temp
   -- on or off, the layers are mixed; the switch-on looks at the layers on which the turn begins, with the flag that the last step left
   unfoldable pub turn : Bool → Turned
   turn flag = let on = switchOn p (getD temps (h .thermostat) nan) flag in afterMixing on (heatAndMix on)
+
+-- a layer or its figures after a heater's turn
+unfoldable pub turnFinite : Cylinder → Turned → Bool
+turnFinite c u = allFinite (c .layers) (u .temps) && finite (u .adjusted) && finite (u .supplied) && finite (u .losses)
+
+-- the number with which a turn ends its step, or 0: 9 for a mixing out of order, 10 for what is not finite
+abbrev pub numberAfter : Mixing → Bool → ℕ
+numberAfter unsorted finite = 9
+numberAfter (sorted temps k) finite = cond finite 0 10
+
+unfoldable pub turnNumber : Cylinder → Turned → ℕ
+turnNumber c u = numberAfter (u .mixing) (turnFinite c u)

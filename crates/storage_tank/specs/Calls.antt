@@ -97,8 +97,8 @@ steppedTank t s = record {
 
 abbrev pub reportOf : Progress → Report
 reportOf s = record {
-  energy = s .energy;
-  used = s .used;
+  energy = s .totals .energy;
+  used = s .totals .used;
   average = s .average;
   recoverable = recoverable s;
   lines = s .lines;

@@ -17,16 +17,18 @@ use Rattle.cylinder.specs.declared.Cylinder.{Cylinder}
 use Rattle.cylinder.specs.Layers.{layerVolumes}
 use Rattle.draw_off.specs.Draw.{extract}
 use Rattle.draw_off.specs.Refill.{refill}
+use Rattle.draw_off.specs.Event.{EventMixing, unmixed, mixed, Event, eventNumber}
 use Rattle.heating.specs.Switch.{switchOn, switchOff}
 use Rattle.heating.specs.Heat.{offer, heated}
 use Rattle.heating.specs.Losses.{tempsAfter, chargedAfter, surplus, adjusted, losses}
 use Rattle.heating.specs.Supply.{supply}
+use Rattle.heating.specs.Turn.{turnNumber}
 use Rattle.storage_tank.specs.declared.TankDesign.{TankDesign}
 use Rattle.storage_tank.specs.declared.Step.{Step}
 use Rattle.storage_tank.specs.Fixed.{State, noHeater, fixedOf}
 use Rattle.storage_tank.specs.Order.{workingOrder}
 use Rattle.storage_tank.specs.Checks.{noSetting, stepRefusal}
-use Rattle.storage_tank.specs.Work.{Progress, EventMixing, unmixed, mixed, Event, Turn, End, refused, done, Work, stop, eventFinite, turnFinite, afterEvent, afterTurn, opening, withAverage, closed}
+use Rattle.storage_tank.specs.Work.{Progress, Turn, End, refused, done, Work, stop, afterEvent, afterTurn, opening, withAverage, closed}
 use Rattle.storage_tank.specs.Members.{All, Some, Distinct, Chain}
 
 abbrev pub accepted : End → Bool
@@ -84,7 +86,7 @@ pub record InWorkingOrder (m : TankDesign) (hs : List ℕ) : Type 0 where
 pub record EventOf (m : TankDesign) (feed : Float) (v : Float) (s : Progress) (e : Event) : Type 0 where
   pub wanted : e .wanted ≡ v
   pub before : e .before ≡ s .temps
-  pub draw : e .draw ≡ extract (cylinderOf m) (volumesOf m) feed (s .temps) v (s .weighted) (s .drawn)
+  pub draw : e .draw ≡ extract (cylinderOf m) (volumesOf m) feed (s .temps) v (s .totals .weighted) (s .totals .drawn)
   pub refill : e .refill ≡ refill (m .layers) (volumesOf m) feed (s .temps) (e .draw .held)
   pub mixing : T (e .refill .mixes) → e .mixing ≡ mixed (rearrange (m .layers) (volumesOf m) (e .refill .temps))
   pub no-mixing : T (not (e .refill .mixes)) → e .mixing ≡ unmixed
@@ -115,32 +117,17 @@ pub record TurnOf (m : TankDesign) (a : Step) (fs : List Bool) (h : ℕ) (s : Pr
 
 -- ---- what ended a step
 
--- with which number a mixing and then a test for 10 end a step; 0 for not at all
-abbrev pub ends : Mixing → Bool → ℕ
-ends unsorted finite = 9
-ends (sorted temps k) finite = cond finite 0 10
-
-abbrev pub eventEnds : EventMixing → Bool → ℕ
-eventEnds unmixed finite = cond finite 0 10
-eventEnds (mixed x) finite = ends x finite
-
--- the layers that an event hands on
-abbrev pub handedOn : List Float → EventMixing → List Float
-handedOn temps unmixed = temps
-handedOn temps (mixed (sorted after k)) = after
-handedOn temps (mixed unsorted) = temps
-
 abbrev pub eventNext : TankDesign → Progress → Event → Progress
-eventNext m s e = afterEvent (cylinderOf m) (e .draw) (handedOn (e .refill .temps) (e .mixing)) s
+eventNext m s e = afterEvent (cylinderOf m) e s
 
-abbrev pub eventNumber : TankDesign → Progress → Event → ℕ
-eventNumber m s e = eventEnds (e .mixing) (eventFinite (cylinderOf m) (eventNext m s e))
+abbrev pub eventEnds : TankDesign → Progress → Event → ℕ
+eventEnds m s e = eventNumber (cylinderOf m) e (s .totals)
 
 abbrev pub turnNext : Progress → Turn → Progress
 turnNext s u = afterTurn u s
 
-abbrev pub turnNumber : TankDesign → Progress → Turn → ℕ
-turnNumber m s u = ends (u .turned .mixing) (turnFinite (cylinderOf m) (u .turned))
+abbrev pub turnEnds : TankDesign → Progress → Turn → ℕ
+turnEnds m s u = turnNumber (cylinderOf m) (u .turned)
 
 -- The deeds ds, from s to the end e: each of ks had its deed, in their order, from where the one before left off; either all of them, and none ended the step,
 -- or up to the one that did
@@ -155,10 +142,10 @@ Ran Of next number s (k ∷ ks) (d ∷ ds) e =
 -- ---- the course of a step
 
 abbrev pub Events : TankDesign → Step → Progress → List Event → End → Type 0
-Events m a s es e = Ran (EventOf m (a .feed)) (eventNext m) (eventNumber m) s (tabulate (λ (i : ℕ). getD (a .volumes) i nan) (a .events) 0) es e
+Events m a s es e = Ran (EventOf m (a .feed)) (eventNext m) (eventEnds m) s (tabulate (λ (i : ℕ). getD (a .volumes) i nan) (a .events) 0) es e
 
 abbrev pub Turns : TankDesign → Step → List Bool → Progress → List Turn → End → Type 0
-Turns m a fs s us e = Ran (TurnOf m a fs) turnNext (turnNumber m) s (workingOrder (fixedOf m)) us e
+Turns m a fs s us e = Ran (TurnOf m a fs) turnNext (turnEnds m) s (workingOrder (fixedOf m)) us e
 
 -- A step from the state st is refused by the first check that does not pass, with nothing worked; or by one of its events, with no turn; or it is all its events,
 -- the average, the turns in working order, and what the end looks at

@@ -10,13 +10,12 @@ use Rattle.numeric.specs.Double.{dbl, _⊕_, _⊛_, _⊘_, zero-f}
 use Rattle.numeric.specs.Close.{wideClose}
 use Rattle.numeric.specs.Tabulate.{tabulate}
 use Rattle.mixing.specs.Limits.{maxLayers}
-use Rattle.mixing.specs.Rearrange.{Mixing, sorted, unsorted, rearrange}
 use Rattle.cylinder.specs.declared.Cylinder.{Cylinder}
-use Rattle.cylinder.specs.Layers.{layerVolumes, allFinite}
-use Rattle.draw_off.specs.Draw.{Draw, extract, volumeUsed}
-use Rattle.draw_off.specs.Refill.{Refill, refill}
+use Rattle.cylinder.specs.Layers.{layerVolumes}
+use Rattle.draw_off.specs.declared.Totals.{Totals}
+use Rattle.draw_off.specs.Event.{Event, eventOf, tempsAfterEvent, totalsAfterEvent, eventNumber}
 use Rattle.heating.specs.declared.SetPoints.{SetPoints}
-use Rattle.heating.specs.Turn.{Turned, turn}
+use Rattle.heating.specs.Turn.{Turned, turn, turnNumber}
 use Rattle.storage_tank.specs.declared.HeaterLine.{HeaterLine}
 use Rattle.storage_tank.specs.declared.Step.{Step}
 use Rattle.storage_tank.specs.Limits.{maxHeaters}
@@ -26,32 +25,16 @@ use Rattle.storage_tank.specs.Checks.{pointsOf, stepRefusal}
 
 -- ---- what has happened
 
--- where a step's work has come to: the layers, the totals of the draw, the average draw-off temperature, the flags, what each layer was charged with, the
--- heaters' losses, and the heaters' lines
+-- where a step's work has come to: the layers, what it has drawn, the average draw-off temperature, the flags, what each layer was charged with, the heaters'
+-- losses, and the heaters' lines
 pub record Progress : Type 0 where
   pub temps : List Float
-  pub energy : Float
-  pub used : Float
-  pub weighted : Float
-  pub drawn : Float
+  pub totals : Totals
   pub average : Float
   pub flags : List Bool
   pub charged : List Float
   pub losses : Float
   pub lines : List HeaterLine
-
--- an event ends in a mixing, or does not
-pub data EventMixing : Type 0 where
-  unmixed : EventMixing
-  mixed : Mixing → EventMixing
-
--- a draw event: the volume wanted, the layers before it, its draw, its refill and its mixing
-pub record Event : Type 0 where
-  pub wanted : Float
-  pub before : List Float
-  pub draw : Draw
-  pub refill : Refill
-  pub mixing : EventMixing
 
 -- a turn: whose, with which set points, the layers before it, the thermostat layer where it began, what it came to, and the thermostat layer where it ended
 pub record Turn : Type 0 where
@@ -87,31 +70,17 @@ resume es us (done s) f = let w = f s in record { events = es ++ w .events; turn
 unfoldable pub andThen : Work → (Progress → Work) → Work
 andThen w f = resume (w .events) (w .turns) (w .end) f
 
--- 10, unless all that is looked at is finite
-unfoldable pub unlessInfinite : Bool → Progress → End
-unlessInfinite true s = done s
-unlessInfinite false s = refused 10
+-- the end by the number of a refusal, or 0
+unfoldable pub endBy : ℕ → Progress → End
+endBy zero s = done s
+endBy (suc n) s = refused (suc n)
 
 -- ---- a draw event
 
-unfoldable pub eventMixing : Bool → Cylinder → List Float → EventMixing
-eventMixing false c temps = unmixed
-eventMixing true c temps = mixed (rearrange (c .layers) (layerVolumes c) temps)
-
-unfoldable pub eventOf : Cylinder → Float → Float → Progress → Event
-eventOf c feed wanted s =
-    let draw = extract c (layerVolumes c) feed (s .temps) wanted (s .weighted) (s .drawn) in
-    let filled = refill (c .layers) (layerVolumes c) feed (s .temps) (draw .held) in
-    record { wanted = wanted; before = s .temps; draw = draw; refill = filled; mixing = eventMixing (filled .mixes) c (filled .temps) }
-
--- an event's energy and volume used are its own sums, added to the step's when it ends
-unfoldable pub afterEvent : Cylinder → Draw → List Float → Progress → Progress
-afterEvent c draw temps s = record {
+abbrev pub withDraw : List Float → Totals → Progress → Progress
+withDraw temps t s = record {
   temps = temps;
-  energy = s .energy ⊕ draw .energy;
-  used = s .used ⊕ volumeUsed c (draw .held);
-  weighted = draw .weighted;
-  drawn = draw .drawn;
+  totals = t;
   average = s .average;
   flags = s .flags;
   charged = s .charged;
@@ -119,23 +88,13 @@ afterEvent c draw temps s = record {
   lines = s .lines;
 }
 
--- a layer, or energy or volume used so far, after an event
-abbrev pub eventFinite : Cylinder → Progress → Bool
-eventFinite c s = allFinite (c .layers) (s .temps) && finite (s .energy) && finite (s .used)
-
-abbrev pub checkedEvent : Cylinder → Progress → End
-checkedEvent c s = unlessInfinite (eventFinite c s) s
-
--- a refused mixing (9) comes before 10
-unfoldable pub eventEnd : Cylinder → Progress → Event → EventMixing → End
-eventEnd c s e unmixed = checkedEvent c (afterEvent c (e .draw) (e .refill .temps) s)
-eventEnd c s e (mixed unsorted) = refused 9
-eventEnd c s e (mixed (sorted temps k)) = checkedEvent c (afterEvent c (e .draw) temps s)
+unfoldable pub afterEvent : Cylinder → Event → Progress → Progress
+afterEvent c e s = withDraw (tempsAfterEvent e) (totalsAfterEvent c e (s .totals)) s
 
 unfoldable pub event : Cylinder → Float → Float → Progress → Work
 event c feed wanted s =
-    let e = eventOf c feed wanted s in
-    record { events = e ∷ []; turns = []; end = eventEnd c s e (e .mixing) }
+    let e = eventOf c feed wanted (s .temps) (s .totals) in
+    record { events = e ∷ []; turns = []; end = endBy (eventNumber c e (s .totals)) (afterEvent c e s) }
 
 unfoldable pub events : Cylinder → Float → List Float → Progress → Work
 events c feed [] s = nothingMore s
@@ -147,15 +106,12 @@ wantedVolumes a = tabulate (λ (i : ℕ). getD (a .volumes) i nan) (a .events) 0
 
 -- weighted sum / volume drawn, or the top layer after the events if that volume is wide-close to 0
 unfoldable pub averageOf : Cylinder → Progress → Float
-averageOf c s = cond (wideClose (s .drawn) zero-f) (getD (s .temps) (c .layers - 1) nan) (s .weighted ⊘ s .drawn)
+averageOf c s = cond (wideClose (s .totals .drawn) zero-f) (getD (s .temps) (c .layers - 1) nan) (s .totals .weighted ⊘ s .totals .drawn)
 
 unfoldable pub withAverage : Cylinder → Progress → Progress
 withAverage c s = record {
   temps = s .temps;
-  energy = s .energy;
-  used = s .used;
-  weighted = s .weighted;
-  drawn = s .drawn;
+  totals = s .totals;
   average = averageOf c s;
   flags = s .flags;
   charged = s .charged;
@@ -185,10 +141,7 @@ lineOf u = record { flag = u .flag; adjusted = u .adjusted; supplied = u .suppli
 unfoldable pub afterTurn : Turn → Progress → Progress
 afterTurn u s = record {
   temps = u .turned .temps;
-  energy = s .energy;
-  used = s .used;
-  weighted = s .weighted;
-  drawn = s .drawn;
+  totals = s .totals;
   average = s .average;
   flags = set (s .flags) (u .heater) (u .turned .flag);
   charged = u .turned .charged;
@@ -196,18 +149,10 @@ afterTurn u s = record {
   lines = set (s .lines) (u .heater) (lineOf (u .turned));
 }
 
--- a layer or its figures after a heater's turn
-abbrev pub turnFinite : Cylinder → Turned → Bool
-turnFinite c u = allFinite (c .layers) (u .temps) && finite (u .adjusted) && finite (u .supplied) && finite (u .losses)
-
-unfoldable pub turnEnd : Cylinder → Progress → Turn → Mixing → End
-turnEnd c s u unsorted = refused 9
-turnEnd c s u (sorted temps k) = unlessInfinite (turnFinite c (u .turned)) (afterTurn u s)
-
 unfoldable pub heaterTurn : Fixed → Step → ℕ → Progress → Work
 heaterTurn f a h s =
     let u = turnOf f a h s in
-    record { events = []; turns = u ∷ []; end = turnEnd (f .cylinder) s u (u .turned .mixing) }
+    record { events = []; turns = u ∷ []; end = endBy (turnNumber (f .cylinder) (u .turned)) (afterTurn u s) }
 
 unfoldable pub turns : Fixed → Step → List ℕ → Progress → Work
 turns f a [] s = nothingMore s
@@ -221,10 +166,7 @@ zeroLine = record { flag = false; adjusted = zero-f; supplied = zero-f; losses =
 unfoldable pub opening : State → Progress
 opening st = record {
   temps = st .temps;
-  energy = zero-f;
-  used = zero-f;
-  weighted = zero-f;
-  drawn = zero-f;
+  totals = record { energy = zero-f; used = zero-f; weighted = zero-f; drawn = zero-f };
   average = zero-f;
   flags = st .flags;
   charged = replicate maxLayers zero-f;
@@ -239,7 +181,7 @@ recoverable s = s .losses ⊛ dbl 0x3fe8_0000_0000_0000
 -- average or recoverable at the end
 unfoldable pub closed : End → End
 closed (refused n) = refused n
-closed (done s) = unlessInfinite (finite (s .average) && finite (recoverable s)) s
+closed (done s) = endBy (cond (finite (s .average) && finite (recoverable s)) 0 10) s
 
 abbrev pub closing : Work → Work
 closing w = record { events = w .events; turns = w .turns; end = closed (w .end) }
