@@ -3,3 +3,4 @@ pub mod Heat
 pub mod Losses
 pub mod Supply
 pub mod Turn
+pub mod SupplyLaws

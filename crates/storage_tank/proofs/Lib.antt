@@ -1,1 +1,4 @@
 pub mod Figures
+pub mod Latch
+pub mod Members
+pub mod Order
