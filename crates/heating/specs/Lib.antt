@@ -3,4 +3,5 @@ pub mod Heat
 pub mod Losses
 pub mod Supply
 pub mod Turn
+pub mod SwitchLaws
 pub mod SupplyLaws

@@ -14,6 +14,7 @@ use lib.Ieee.Bits.{is-true}
 use Rattle.numeric.specs.Double.{zero-f}
 use Rattle.numeric.specs.Tabulate.{tabulate}
 use Rattle.draw_off.specs.Event.{Event}
+use Rattle.heating.specs.SwitchLaws.{latched}
 use Rattle.storage_tank.specs.declared.Heater.{Heater}
 use Rattle.storage_tank.specs.declared.TankDesign.{TankDesign}
 use Rattle.storage_tank.specs.declared.StorageTank.{StorageTank}
@@ -31,7 +32,7 @@ use Rattle.storage_tank.specs.Calls.{zeroHeater, cleanHeater, fittedHeat
 use Rattle.storage_tank.specs.Members.{All, Some}
 use Rattle.storage_tank.specs.Course.{accepted, numberOf}
 use Rattle.storage_tank.specs.Demand.{InTurn, OrderedOrNine, EventOrderedOrNine, passed, suppliedIn, RightlySupplied, noWork, noAnswer, noCall, OnSince, lastTank, tankOf, holding, CourseOf, FittedAsGiven, Demand3, Promises}
-use Rattle.storage_tank.proofs.Latch.{latched, latchedBy, latched-since}
+use Rattle.storage_tank.proofs.Latch.{latchedBy, latched-since}
 use Rattle.storage_tank.proofs.Members.{any, any→Some, Some→any, all-map, all-both, at-tabulate, past-tabulate, tabulate-same}
 use Rattle.storage_tank.proofs.Order.{in-working-order}
 use Rattle.storage_tank.proofs.Steps.{Reach, Meets, Law, ofHeater, began, ended, nothing-latched}

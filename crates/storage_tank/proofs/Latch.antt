@@ -8,10 +8,7 @@ use Prim.Native.Nat.{ℕ, zero, suc, _≤_, zero-le, suc-le-suc}
 use native.Mathlib.Nat.{le-of-suc-le-suc, not-suc-le-zero}
 use lib.Dec.{T}
 use lib.ListN.{getD}
-
--- the flag after one that sets it, if s, and then resets it, if r
-abbrev pub latched : Bool → Bool → Bool → Bool
-latched s r flag = (s || flag) && not r
+use Rattle.heating.specs.SwitchLaws.{latched}
 
 not-reset : (s r f : Bool) → T (latched s r f) → T (not r)
 not-reset true false f t = tt

@@ -1,4 +1,3 @@
-pub mod Figures
 pub mod Latch
 pub mod Members
 pub mod Order

@@ -22,14 +22,12 @@ use Rattle.cylinder.specs.Layers.{layerVolumes}
 use Rattle.draw_off.specs.declared.Totals.{Totals}
 use Rattle.draw_off.specs.Event as Event
 use Rattle.draw_off.specs.Event.{Event, EventMixing, unmixed, mixed, eventMixing, eventOf, eventNumber}
-use Rattle.heating.specs.declared.SetPoints.{SetPoints}
-use Rattle.heating.specs.declared.SetPoints.the-variants.{Neither, Lower, Upper, Both}
-use Rattle.heating.specs.Switch.{hasUpper, upperOf, atOrUnderLower, reached, upperMissingOrReached, switchOn, switchOff}
+use Rattle.heating.specs.Switch.{atOrUnderLower, upperMissingOrReached}
+use Rattle.heating.specs.SwitchLaws.{latched}
 use Rattle.storage_tank.specs.declared.HeaterLine.{HeaterLine}
 use Rattle.storage_tank.specs.Work.{Progress, Turn, End, refused, done, Work, resume, andThen, endBy, lineOf, zeroLine, closed, closing}
 use Rattle.storage_tank.specs.Members.{All}
 use Rattle.storage_tank.specs.Demand.{Nondecreasing, OrderedOrNine, EventOrderedOrNine}
-use Rattle.storage_tank.proofs.Latch.{latched}
 use Rattle.storage_tank.proofs.Members.{any, all-append, all-left, all-right, all-map, all-both, any-append, In, NotIn, in-all, in-or-not, in-left, in-right}
 
 -- ---- a mixing
@@ -52,11 +50,6 @@ rearrange-sorted n vol temps = rounds-sorted (maxRounds n) false 0 n vol temps (
 pub nondecreasing : (n : ℕ) (temps : List Float) → isSorted n temps ≡ true → Nondecreasing n temps
 unfolding isSorted
 nondecreasing n temps h i l = subst T (sym (holds-at (rises temps) (n - 1) 0 h i (omega arith) (omega arith))) tt
-
--- what a mixing hands on, in a step that it does not end, or that it ends with 9
-pub hands-on : (n : ℕ) (x : Mixing) (e : End) → Sorted n x → (x ≡ unsorted → e ≡ refused 9) → OrderedOrNine n e x
-hands-on n (sorted temps k) e o h = nondecreasing n temps o
-hands-on n unsorted e o h = h refl
 
 -- ---- a statement of a work: of its mixings, of its turns, and of its end: a number above 0, or what R says of the turns and of where it ended
 
@@ -241,26 +234,3 @@ first-law s u s' l m f g = record {
     go : (h : ℕ) → Dec (h ≡ u .heater) → getD (set (s .flags) (u .heater) new) h false ≡ latched (any (ofHeater h began) (u ∷ [])) (any (ofHeater h ended) (u ∷ [])) (getD (s .flags) h false)
     go h (yes e) = rw (e, is-true (eqb (u .heater) (u .heater)) (eqb-refl (u .heater)), or-false, or-false) (getD-set-same (s .flags) (u .heater) new false l)
     go h (no n) = rw (eqb-not (u .heater) h (λ e. n (sym e)), nothing-latched) (getD-set-other (s .flags) (u .heater) h new false n)
-
--- ---- the switches are a latch: set at or under a lower set point, reset with the upper one missing or reached
-
-pub switches-latch : (p : SetPoints) (x y : Float) (f : Bool) → switchOff p y (switchOn p x f) ≡ latched (atOrUnderLower p x) (upperMissingOrReached p y) f
-unfolding switchOff switchOn hasUpper upperOf atOrUnderLower upperMissingOrReached
-switches-latch Neither x y f = sym (and-false f)
-switches-latch (Lower l) x y f = sym (and-false (lt x l || narrowClose x l || f))
-switches-latch (Upper u) x y f = one (reached y u) f
-  where
-    one : (e f : Bool) → cond e false f ≡ latched false e f
-    one true true = refl
-    one true false = refl
-    one false true = refl
-    one false false = refl
-switches-latch (Both l u) x y f = two (lt x l || narrowClose x l) (reached y u) f
-  where
-    two : (b e f : Bool) → cond e false (cond b true f) ≡ latched b e f
-    two true true f = refl
-    two true false f = refl
-    two false true true = refl
-    two false true false = refl
-    two false false true = refl
-    two false false false = refl

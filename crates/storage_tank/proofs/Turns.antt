@@ -15,6 +15,7 @@ use Rattle.heating.specs.Switch.{switchOn, switchOff}
 use Rattle.heating.specs.Heat.{offer, heated}
 use Rattle.heating.specs.Losses.{surplus}
 use Rattle.heating.specs.Turn.{Immersion, Turned, input, heatAndMix, adjustedInput, afterMixing, turn, turnFinite, turnNumber}
+use Rattle.heating.specs.SwitchLaws.{latched, switches-latch}
 use Rattle.heating.specs.SupplyLaws.{supply-at-most, supply-off}
 use Rattle.storage_tank.specs.declared.TankDesign.{TankDesign}
 use Rattle.storage_tank.specs.declared.Step.{Step}
@@ -24,9 +25,8 @@ use Rattle.storage_tank.specs.Checks.{isPositive, notNegative, pointsOf}
 use Rattle.storage_tank.specs.Work.{Progress, Turn, End, refused, done, endBy, turnOf, lineOf, afterTurn, heaterTurn}
 use Rattle.storage_tank.specs.Course.{cylinderOf, volumesOf, ratedOf, heaterLayer, thermostatLayer, maxEnergy, TurnOf, FiguresOf}
 use Rattle.storage_tank.specs.Demand.{passed, RightlySupplied}
-use Rattle.storage_tank.proofs.Latch.{latched}
 use Rattle.storage_tank.proofs.Order.{heater-is}
-use Rattle.storage_tank.proofs.Steps.{Sorted, rearrange-sorted, nondecreasing, end-reach, Meets, began, ended, Law, first-law, switches-latch}
+use Rattle.storage_tank.proofs.Steps.{Sorted, rearrange-sorted, nondecreasing, end-reach, Meets, began, ended, Law, first-law}
 
 module _ (m : TankDesign) (a : Step) where
   -- the heater h by make's arguments

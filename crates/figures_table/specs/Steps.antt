@@ -1,5 +1,4 @@
--- Proves the figures of 01 (Figures to hold it against) of the definitions, by computation: one table, every number of each figure.
--- The mixing figures stand with the mixing.
+-- Proves the figures of 01 (Figures to hold it against) that steps show, of the definitions and by computation: every number of each figure, and the traps of a step.
 use mathlib.Core.Path.{_≡_, refl}
 use mathlib.Core.List.{List, [], _∷_, map}
 use mathlib.Core.Bool.{Bool, true, false}
@@ -173,3 +172,97 @@ four-steps = refl
 limited : seenOf (tank 2 32 40 1 (bottomHeater 160 ∷ [])) (heatStep 1 (Both (whole 41) (whole 42) ∷ []) ∷ []) ≡ heated (42 ∷ 42 ∷ []) false 64 40 1 ∷ []
 unfolding opened
 limited = refl
+
+-- ---- losses
+
+-- two heaters of 1 kW at the bottom, unset
+abbrev unset : Call
+unset = heatStep 2 (Neither ∷ Neither ∷ [])
+
+abbrev lossLine : ℕ → HeaterLine
+lossLine losses = record { flag = false; adjusted = zero-f; supplied = zero-f; losses = whole losses; rounds = 1 }
+
+-- two layers at 36, ambient 20, standby 27, step 0.125, two heaters unset: 34.4375 twice, losses 50 then 0, recoverable 37.5
+losses-once : seenOf (record {
+  layers = 2;
+  volume = whole 32;
+  standby = whole 27;
+  initial = whole 36;
+  rho = whole 1;
+  cp = whole 1;
+  ambient = whole 20;
+  timestep = dbl 0x3fc0_0000_0000_0000;
+  heaters = 2;
+  fitted = bottomHeater 1 ∷ bottomHeater 1 ∷ [];
+}) (unset ∷ []) ≡ record {
+  number = 0;
+  layers = dbl 0x4041_3800_0000_0000 ∷ dbl 0x4041_3800_0000_0000 ∷ [];
+  flags = false ∷ false ∷ [];
+  energy = zero-f;
+  used = zero-f;
+  average = whole 36;
+  recoverable = dbl 0x4042_c000_0000_0000;
+  lines = lossLine 50 ∷ lossLine 0 ∷ [];
+} ∷ []
+unfolding opened
+losses-once = refl
+
+-- ---- positions and set points
+
+-- position 0.5 of 4 is layer 2; position 1 is refusal 5
+half-of-four : layerOf (dbl 0x3fe0_0000_0000_0000) 4 ≡ 2
+unfolding opened
+half-of-four = refl
+
+at-the-top : made (tank 4 64 60 1 (record { rated = whole 1; position = whole 1; «has_thermostat» = false; thermostat = zero-f } ∷ [])) .number ≡ 5
+unfolding opened
+at-the-top = refl
+
+-- lower equal to upper is accepted; here the heater reaches both at once and goes off
+equal-points : seenOf (tank 2 32 40 1 (bottomHeater 160 ∷ [])) (heatStep 1 (Both (whole 45) (whole 45) ∷ []) ∷ []) ≡ heated (45 ∷ 45 ∷ []) false 160 40 1 ∷ []
+unfolding opened
+equal-points = refl
+
+-- ---- traps
+
+-- a limited layer keeps the set point: each of its two layers would lose 275, which counts and is not taken
+limited-keeps : seenOf (record {
+  layers = 2;
+  volume = whole 32;
+  standby = whole 27;
+  initial = whole 40;
+  rho = whole 1;
+  cp = whole 1;
+  ambient = whole 20;
+  timestep = whole 1;
+  heaters = 1;
+  fitted = bottomHeater 160 ∷ [];
+}) (heatStep 1 (Both (whole 41) (whole 42) ∷ []) ∷ []) ≡ record {
+  number = 0;
+  layers = whole 42 ∷ whole 42 ∷ [];
+  flags = false ∷ [];
+  energy = zero-f;
+  used = zero-f;
+  average = whole 40;
+  recoverable = dbl 0x4079_c800_0000_0000;
+  lines = record { flag = false; adjusted = whole 160; supplied = whole 160; losses = whole 550; rounds = 1 } ∷ [];
+} ∷ []
+unfolding opened
+limited-keeps = refl
+
+abbrev onLine : HeaterLine
+onLine = record { flag = true; adjusted = whole 160; supplied = whole 160; losses = zero-f; rounds = 1 }
+
+-- switching off looks at the turn's own layers: the first heater leaves 50, under its 55, and the second then takes the layer to 60
+own-layers : seenOf (tank 1 16 40 2 (bottomHeater 160 ∷ bottomHeater 160 ∷ [])) (heatStep 2 (Both (whole 41) (whole 55) ∷ Both (whole 60) (whole 70) ∷ []) ∷ []) ≡ record {
+  number = 0;
+  layers = whole 60 ∷ [];
+  flags = true ∷ true ∷ [];
+  energy = zero-f;
+  used = zero-f;
+  average = whole 40;
+  recoverable = zero-f;
+  lines = onLine ∷ onLine ∷ [];
+} ∷ []
+unfolding opened
+own-layers = refl
