@@ -105,7 +105,7 @@ clean-placed x = go (x .«has_thermostat»)
     go true = refl
     go false = refl
 
-fixed-is : (m : TankDesign) (st : State) → m .heaters ≤ maxHeaters → fixedIn (tankOf m st) ≡ fixedOf m
+pub fixed-is : (m : TankDesign) (st : State) → m .heaters ≤ maxHeaters → fixedIn (tankOf m st) ≡ fixedOf m
 unfolding placedHeaters
 fixed-is m st l =
     ap (λ (hs : List Placed). record { cylinder = fixedOf m .cylinder; heaters = hs })
@@ -259,7 +259,7 @@ all-false (suc n) zero = refl
 all-false (suc n) (suc i) = all-false n i
 
 module _ (m : TankDesign) where
-  made-is : (made m .number ≡ designRefusal m) × (made m .tank ≡ holding m (designRefusal m) (start m))
+  pub made-is : (made m .number ≡ designRefusal m) × (made m .tank ≡ holding m (designRefusal m) (start m))
   unfolding made
   made-is = go (designRefusal m)
     where

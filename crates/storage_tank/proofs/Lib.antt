@@ -6,3 +6,4 @@ pub mod Turns
 pub mod Works
 pub mod Course
 pub mod Demand
+pub mod Calls

@@ -1,0 +1,71 @@
+-- Proves what the calls' callers may rely on (01, The four calls): a refused step hands back the tank and the report it was given, a tank that make accepts passes a step's
+-- checks 1 to 5, and the layers of positions are in range.
+use mathlib.Core.Path.{_≡_, refl, sym, ap, _∙_, subst}
+use mathlib.Core.List.{List, [], _∷_, _++_, append-nil}
+use mathlib.Core.Bool.{Bool, true, false, cond}
+use Prim.Native.Nat.{ℕ, zero, suc, _+_, _<_, _≤_}
+use native.Mathlib.Nat.{le-of-suc-le-suc, not-suc-le-zero}
+use native.Mathlib.Omega.{arith}
+use lib.Dec.{T}
+use lib.ListN.{length, getD, drop, replicate}
+use lib.Ieee.{Float, nan, le}
+use lib.Ieee.Scale.{finite}
+use Rattle.numeric.specs.Double.{zero-f, whole, _⊛_}
+use Rattle.numeric.specs.Holds.{holds, at-holds}
+use Rattle.numeric.specs.Whole.{wholeBelow, layerOf}
+use Rattle.mixing.specs.Limits.{maxLayers}
+use Rattle.cylinder.specs.Layers.{allFinite}
+use Rattle.storage_tank.specs.declared.TankDesign.{TankDesign}
+use Rattle.storage_tank.specs.declared.StorageTank.{StorageTank}
+use Rattle.storage_tank.specs.declared.Step.{Step}
+use Rattle.storage_tank.specs.declared.Report.{Report}
+use Rattle.storage_tank.specs.declared.Stepped.{Stepped}
+use Rattle.storage_tank.specs.Fixed.{State, fixedOf, fixedIn, stateIn}
+use Rattle.storage_tank.specs.Checks.{firstRefusal, tankChecks, makeRefusal}
+use Rattle.storage_tank.specs.Work.{End, refused, done, work}
+use Rattle.storage_tank.specs.History.{designRefusal, start}
+use Rattle.storage_tank.specs.Calls.{made, madeOf, answer, stepped}
+use Rattle.storage_tank.specs.Demand.{tankOf, holding}
+use Rattle.storage_tank.proofs.Works.{made-heaters, unless-passes, tank-passes}
+use Rattle.storage_tank.proofs.Demand.{fixed-is, made-is}
+
+-- ---- a refused step
+
+pub refused-step : (t : StorageTank) (r : Report) (a : Step) → 0 < stepped t r a .number → (stepped t r a .tank ≡ t) × (stepped t r a .report ≡ r)
+unfolding stepped
+refused-step t r a l = go (work (fixedIn t) (stateIn t) a .end) l
+  where
+    go : (e : End) → 0 < answer t r e .number → (answer t r e .tank ≡ t) × (answer t r e .report ≡ r)
+    go (refused n) l = unfold answer in (refl, refl)
+    go (done s) l = absurd (unfold answer in (omega (arith, l)))
+
+-- ---- layers in range
+
+pub whole-below : (n : ℕ) (x : Float) → 0 < n → wholeBelow n x < n
+unfolding wholeBelow
+whole-below zero x l = absurd (not-suc-le-zero l)
+whole-below (suc zero) x l = go (le (whole 0) x)
+  where
+    go : (b : Bool) → cond b 0 0 < 1
+    go true = omega arith
+    go false = omega arith
+whole-below (suc (suc k)) x l = go (le (whole (suc k)) x) (whole-below (suc k) x (omega arith))
+  where
+    go : (b : Bool) → wholeBelow (suc k) x < suc k → cond b (suc k) (wholeBelow (suc k) x) < suc (suc k)
+    go true h = omega arith
+    go false h = omega arith
+
+pub layer-below : (position : Float) (layers : ℕ) → 0 < layers → layerOf position layers < layers
+unfolding layerOf
+layer-below position layers l = whole-below layers (position ⊛ whole layers) l
+
+-- ---- what make accepts, a step's checks 1 to 5 pass
+
+filled-at : (n k : ℕ) (x : Float) (ys : List Float) (d : Float) → k < n → getD (replicate n x ++ ys) k d ≡ x
+filled-at zero k x ys d l = absurd (not-suc-le-zero l)
+filled-at (suc n) zero x ys d l = refl
+filled-at (suc n) (suc k) x ys d l = filled-at n k x ys d (le-of-suc-le-suc l)
+
+filled-finite : (n : ℕ) (x : Float) (ys : List Float) → finite x ≡ true → allFinite n (replicate n x ++ ys) ≡ true
+unfolding allFinite
+filled-finite n x ys h = at-holds (λ (k : ℕ). finite (getD (replicate n x ++ ys) k nan)) n 0 (λ j l u. ap finite (filled-at n j x ys nan (omega arith)) ∙ h)
