@@ -1,2 +1,5 @@
 pub mod Group
 pub mod Rounds
+pub mod Length
+pub mod Places
+pub mod Array
