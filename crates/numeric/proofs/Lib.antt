@@ -1,1 +1,3 @@
 pub mod Infinity
+pub mod WholePart
+pub mod Layer
