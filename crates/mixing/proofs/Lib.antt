@@ -3,3 +3,5 @@ pub mod Rounds
 pub mod Length
 pub mod Places
 pub mod Array
+pub mod Order
+pub mod Figures
