@@ -70,8 +70,7 @@ module _ (n : ℕ) (vol vol′ ys : List Float) (v : SameBelow n vol vol′) whe
       let e = r .0 in
       let b = joins (getD xs i nan) (getD xs (i + 1) nan) in
       let x = groupTemp n vol xs (w .bottom) (i + 2) in
-      let f = fill-first n x ys (w .bottom) (i + 2) xs (omega arith) (omega arith) e in
-      (
+      let f = fill-first n x ys (w .bottom) (i + 2) xs (omega arith) (omega arith) e in (
         chosen b i xs (fill (w .bottom) (i + 2) x xs) (w .bottom) e (f .0),
         pair-bottom n vol i w (r .1),
         rw (r .2, getD-first xs e i (omega arith), getD-first xs e (i + 1) (omega arith), groupTemp-first xs (w .bottom) (i + 2) e, f .1) (spread b i xs (fill (w .bottom) (i + 2) x xs) (w .bottom)),

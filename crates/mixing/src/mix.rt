@@ -5,7 +5,6 @@ ghost use Prim.Native.Nat.{_≤_};
 ghost use lib.ListN.{length, take, drop};
 ghost use Rattle.mixing.specs.Limits.{maxLayers};
 ghost use Rattle.mixing.specs.Mix.{answerOf, tempsOf, mixing, mixAnswer, mixLayers};
-
 use crate::MixAnswer;
 use crate::limits::MAX_LAYERS;
 

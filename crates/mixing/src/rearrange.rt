@@ -4,7 +4,6 @@ ghost use Prim.Native.Nat.{_≤_};
 ghost use Rattle.mixing.specs.Limits.{maxLayers};
 ghost use Rattle.mixing.specs.Rearrange.{isSorted, rearrange};
 ghost use Rattle.mixing.specs.Mix.{answerOf, tempsOf};
-
 use crate::MixAnswer;
 use crate::limits::MAX_LAYERS;
 
@@ -25,7 +24,11 @@ pub fn is_sorted(n: usize, temps: &[f64; MAX_LAYERS]) -> bool
 }
 
 // Works in place; a refused mixing puts back what it found.
-pub fn rearrange_temperatures(n: usize, vol: &[f64; MAX_LAYERS], temps: &mut [f64; MAX_LAYERS]) -> MixAnswer
+pub fn rearrange_temperatures(
+    n: usize,
+    vol: &[f64; MAX_LAYERS],
+    temps: &mut [f64; MAX_LAYERS],
+) -> MixAnswer
     requires { ⌜ (1 ≤ n) × (n ≤ maxLayers) ⌝ }
     ensures { λ r. ⌜ (r ≡ answerOf (rearrange n (now (vol .entry)) (now (temps .entry)))) × (now (temps .exit) ≡ tempsOf (now (temps .entry)) (rearrange n (now (vol .entry)) (now (temps .entry)))) ⌝ }
 {

@@ -3,7 +3,6 @@ ghost use mathlib.Core.Path.{_≡_};
 ghost use Prim.Native.Nat.{_+_, _≤_, _<_};
 ghost use Rattle.mixing.specs.Limits.{maxLayers};
 ghost use Rattle.mixing.specs.Round.{joins, member, groupTemp, fill, pair, oneRound};
-
 use crate::limits::MAX_LAYERS;
 
 // A pair joins the group: its lower layer is hotter or narrow-close.
@@ -30,7 +29,13 @@ fn member_of(bottom: usize, end: usize, k: usize) -> f64
 }
 
 // What the group's layers take: both sums run over all n layers, in one pass.
-fn group_temp(n: usize, vol: &[f64; MAX_LAYERS], temps: &[f64; MAX_LAYERS], bottom: usize, end: usize) -> f64
+fn group_temp(
+    n: usize,
+    vol: &[f64; MAX_LAYERS],
+    temps: &[f64; MAX_LAYERS],
+    bottom: usize,
+    end: usize,
+) -> f64
     requires { ⌜ n ≤ maxLayers ⌝ }
     ensures { λ r. ⌜ r ≡ groupTemp n (now (vol .entry)) (now (temps .entry)) bottom end ⌝ }
 {
@@ -59,7 +64,13 @@ fn fill_group(bottom: usize, end: usize, x: f64, temps: &mut [f64; MAX_LAYERS])
 }
 
 // The pair of the layers i and i + 1, where the running group starts at bottom; the answer is where it starts after the pair.
-fn mix_pair(n: usize, vol: &[f64; MAX_LAYERS], i: usize, bottom: usize, temps: &mut [f64; MAX_LAYERS]) -> usize
+fn mix_pair(
+    n: usize,
+    vol: &[f64; MAX_LAYERS],
+    i: usize,
+    bottom: usize,
+    temps: &mut [f64; MAX_LAYERS],
+) -> usize
     requires { ⌜ (i + 1 < n) × (n ≤ maxLayers) × (bottom ≤ i) ⌝ }
     ensures { λ r. ⌜ record { temps = now (temps .exit); bottom = r } ≡ pair n (now (vol .entry)) i (record { temps = now (temps .entry); bottom = bottom }) ⌝ }
 {

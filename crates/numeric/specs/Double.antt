@@ -28,7 +28,6 @@ _⊘_ a b = div binary64 a b
 
 infixl 60 _⊕_ _⊖_
 infixl 70 _⊛_ _⊘_
-
 abbrev pub zero-f : Float
 zero-f = dbl 0x0000_0000_0000_0000
 

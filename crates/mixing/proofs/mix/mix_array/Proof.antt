@@ -54,8 +54,7 @@ same-length c = search needs
 returns : tie.Need-returns
 returns c =
     let told = c .before .before .before .before .before in
-    let ran = told .before .before in
-    (
+    let ran = told .before .before in (
       worked ran .0,
       c .before .before .copy-out .ensures ∙ rw (worked ran .1) (array-accepted (volumes ran) (layers ran) (zeros ran) (size ran) _ (sym (worked ran .0) ∙ told .enum-told .given .1)),
     )

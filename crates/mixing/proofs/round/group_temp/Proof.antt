@@ -59,8 +59,7 @@ loop-again : tie.Need-loop-again Inv-loop μ-loop
 loop-again c =
     let member = c .before .before .before .before .before in
     let at = member .before .before in
-    let l = member .before .loop-test .taken in
-    (
+    let l = member .before .loop-test .taken in (
       rw (c .before .before .add-term .ensures, member .member-of .ensures) (rest-turn _ _ _ _ _ l (at .loop .inv .0)),
       rw (c .add-term2 .ensures, member .member-of .ensures) (rest-turn _ _ _ _ _ l (at .loop .inv .1)),
     )
