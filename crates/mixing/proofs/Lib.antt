@@ -1,2 +1,7 @@
 pub mod Group
 pub mod Rounds
+pub mod Length
+pub mod Places
+pub mod Array
+pub mod Order
+pub mod Figures

@@ -1,5 +1,6 @@
 // The mixing of a cylinder's layers: `rearrange_temperatures`, worked in place, and the call `mix`.
 pub mod limits;
+pub mod mix;
 pub mod rearrange;
 pub mod round;
 

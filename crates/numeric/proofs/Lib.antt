@@ -1,1 +1,4 @@
 pub mod Infinity
+pub mod WholePart
+pub mod Layer
+pub mod NotANumber

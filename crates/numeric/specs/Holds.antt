@@ -53,3 +53,10 @@ module _ (p : ℕ → Bool) where
   unfolding holds
   at-holds zero i h = refl
   at-holds (suc k) i h = rw (h i (omega arith) (omega arith)) (at-holds k (i + 1) (λ j l u. h j (omega arith) (omega arith)))
+
+-- tests that agree at those places hold alike
+module _ (p q : ℕ → Bool) where
+  pub holds-same : (k i : ℕ) → ((j : ℕ) → i ≤ j → j < i + k → p j ≡ q j) → holds p k i ≡ holds q k i
+  unfolding holds
+  holds-same zero i e = refl
+  holds-same (suc k) i e = rw (e i (omega arith) (omega arith), holds-same k (i + 1) (λ j l u. e j (omega arith) (omega arith)))

@@ -3,6 +3,7 @@ pub mod Compare
 pub mod Close
 pub mod Turns
 pub mod Holds
+pub mod Copy
 pub mod Tabulate
 pub mod Sum2
 pub mod Whole

@@ -70,3 +70,12 @@ module _ {S : Type 0} (f : ℕ → S → S) where
       let e : suc k + 1 ≡ suc (k + 1) = omega arith in
       let g : i + suc k ≡ i + 1 + k = omega arith in
       rw (e, g) (turns-more k (i + 1) (f i s))
+
+-- two loops side by side: what each pair of turns below n keeps between their states, the whole loops keep
+module _ {S U : Type 0} (f : ℕ → S → S) (g : ℕ → U → U) where
+  pub turns-beside : (R : ℕ → S → U → Type 0) (n : ℕ) → ((i : ℕ) (s : S) (u : U) → i < n → R i s u → R (i + 1) (f i s) (g i u)) → (k i : ℕ) (s : S) (u : U) → i + k ≤ n → R i s u → R (i + k) (turns f k i s) (turns g k i u)
+  unfolding turns
+  turns-beside R n h zero i s u l r = rw add-zero r
+  turns-beside R n h (suc k) i s u l r =
+      let e : i + suc k ≡ i + 1 + k = omega arith in
+      rw e (turns-beside R n h k (i + 1) (f i s) (g i u) (omega arith) (h i s u (omega arith) r))

@@ -1,6 +1,9 @@
 // `min_of_2` and `max_of_2` of compare_floats.rs, and whether a double is finite.
 ghost use mathlib.Core.Path.{_≡_};
+ghost use mathlib.Core.Bool.{_&&_};
+ghost use lib.Ieee.{lt};
 ghost use lib.Ieee.Scale.{finite};
+ghost use Rattle.numeric.specs.Double.{zero-f};
 ghost use Rattle.numeric.specs.Compare.{minOf2, maxOf2};
 
 pub fn min_of_2(first: f64, second: f64) -> f64
@@ -21,4 +24,14 @@ pub fn is_finite(x: f64) -> bool
 {
     let infinity = 1.0 / 0.0;
     if x < infinity { -infinity < x } else { false }
+}
+
+// What 01 asks of a volume, a density, a specific heat and a step length.
+pub fn is_finite_above_zero(x: f64) -> bool
+    ensures { λ r. ⌜ r ≡ (finite x && lt zero-f x) ⌝ }
+{
+    if is_finite(x) {
+        return x > 0.0;
+    }
+    false
 }
