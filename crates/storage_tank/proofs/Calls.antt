@@ -7,12 +7,14 @@ use Prim.Native.Nat.{ℕ, zero, suc, _+_, _<_, _≤_}
 use native.Mathlib.Nat.{le-of-suc-le-suc, not-suc-le-zero}
 use native.Mathlib.Omega.{arith}
 use lib.Dec.{T}
+use lib.Ieee.Bits.{is-true}
 use lib.ListN.{length, getD, drop, replicate}
 use lib.Ieee.{Float, nan, le}
 use lib.Ieee.Scale.{finite}
 use Rattle.numeric.specs.Double.{zero-f, whole, _⊛_}
 use Rattle.numeric.specs.Holds.{holds, at-holds}
-use Rattle.numeric.specs.Whole.{wholeBelow, layerOf}
+use Rattle.numeric.specs.Whole.{layerOf}
+use Rattle.numeric.proofs.WholePart.{whole-below-bound}
 use Rattle.mixing.specs.Limits.{maxLayers}
 use Rattle.cylinder.specs.Layers.{allFinite}
 use Rattle.storage_tank.specs.declared.TankDesign.{TankDesign}
@@ -20,13 +22,13 @@ use Rattle.storage_tank.specs.declared.StorageTank.{StorageTank}
 use Rattle.storage_tank.specs.declared.Step.{Step}
 use Rattle.storage_tank.specs.declared.Report.{Report}
 use Rattle.storage_tank.specs.declared.Stepped.{Stepped}
-use Rattle.storage_tank.specs.Fixed.{State, fixedOf, fixedIn, stateIn}
+use Rattle.storage_tank.specs.Fixed.{Fixed, fixedOf, fixedIn, stateIn}
 use Rattle.storage_tank.specs.Checks.{firstRefusal, tankChecks, makeRefusal}
 use Rattle.storage_tank.specs.Work.{End, refused, done, work}
 use Rattle.storage_tank.specs.History.{designRefusal, start}
 use Rattle.storage_tank.specs.Calls.{made, madeOf, answer, stepped}
 use Rattle.storage_tank.specs.Demand.{tankOf, holding}
-use Rattle.storage_tank.proofs.Works.{made-heaters, unless-passes, tank-passes}
+use Rattle.storage_tank.proofs.Works.{made-heaters, tank-passes}
 use Rattle.storage_tank.proofs.Demand.{fixed-is, made-is}
 
 -- ---- a refused step
@@ -41,23 +43,9 @@ refused-step t r a l = go (work (fixedIn t) (stateIn t) a .end) l
 
 -- ---- layers in range
 
-pub whole-below : (n : ℕ) (x : Float) → 0 < n → wholeBelow n x < n
-unfolding wholeBelow
-whole-below zero x l = absurd (not-suc-le-zero l)
-whole-below (suc zero) x l = go (le (whole 0) x)
-  where
-    go : (b : Bool) → cond b 0 0 < 1
-    go true = omega arith
-    go false = omega arith
-whole-below (suc (suc k)) x l = go (le (whole (suc k)) x) (whole-below (suc k) x (omega arith))
-  where
-    go : (b : Bool) → wholeBelow (suc k) x < suc k → cond b (suc k) (wholeBelow (suc k) x) < suc (suc k)
-    go true h = omega arith
-    go false h = omega arith
-
 pub layer-below : (position : Float) (layers : ℕ) → 0 < layers → layerOf position layers < layers
 unfolding layerOf
-layer-below position layers l = whole-below layers (position ⊛ whole layers) l
+layer-below position layers l = whole-below-bound layers (position ⊛ whole layers) l
 
 -- ---- what make accepts, a step's checks 1 to 5 pass
 
@@ -69,3 +57,22 @@ filled-at (suc n) (suc k) x ys d l = filled-at n k x ys d (le-of-suc-le-suc l)
 filled-finite : (n : ℕ) (x : Float) (ys : List Float) → finite x ≡ true → allFinite n (replicate n x ++ ys) ≡ true
 unfolding allFinite
 filled-finite n x ys h = at-holds (λ (k : ℕ). finite (getD (replicate n x ++ ys) k nan)) n 0 (λ j l u. ap finite (filled-at n j x ys nan (omega arith)) ∙ h)
+
+-- the first refusal of two lists, the one check apart that looks at temperatures
+same-checks : (m : TankDesign) (b : Bool) → b ≡ finite (m .initial) → firstRefusal (tankChecks (fixedOf m) b) ≡ makeRefusal (fixedOf m) (m .initial)
+unfolding makeRefusal
+same-checks m b e = rw e
+
+initial-finite : (m : TankDesign) → makeRefusal (fixedOf m) (m .initial) ≡ 0 → finite (m .initial) ≡ true
+unfolding makeRefusal
+initial-finite m e = is-true (finite (m .initial)) (tank-passes (fixedOf m) (finite (m .initial)) [] e .temperatures)
+
+pub made-passes : (m : TankDesign) → made m .number ≡ 0 → firstRefusal (tankChecks (fixedIn (made m .tank)) (allFinite (made m .tank .layers) (made m .tank .temps))) ≡ 0
+made-passes m e =
+    let z : designRefusal m ≡ 0 = sym (made-is m .0) ∙ e in
+    let held : made m .tank ≡ tankOf m (start m) = made-is m .1 ∙ ap (λ (n : ℕ). holding m n (start m)) z in
+    let finite-layers = filled-finite (m .layers) (m .initial) (drop (m .layers) (replicate maxLayers zero-f)) (initial-finite m z) in
+    subst (λ (t : StorageTank). firstRefusal (tankChecks (fixedIn t) (allFinite (t .layers) (t .temps))) ≡ 0) (sym held)
+    (ap (λ (f : Fixed). firstRefusal (tankChecks f (allFinite (m .layers) (start m .temps)))) (fixed-is m (start m) (made-heaters m z))
+    ∙ same-checks m (allFinite (m .layers) (start m .temps)) (finite-layers ∙ sym (initial-finite m z))
+    ∙ z)

@@ -12,16 +12,9 @@ use lib.ListN.{length, getD, set, length-set}
 use lib.Seq.{getD-set-same, getD-set-other}
 use lib.Ieee.{Float, nan, le, lt, eq}
 use lib.Ieee.Bits.{is-true}
-use Rattle.numeric.specs.Close.{narrowClose}
-use Rattle.numeric.specs.Holds.{holds-at}
-use Rattle.mixing.specs.Round.{oneRound}
-use Rattle.mixing.specs.Rearrange.{Mixing, sorted, unsorted, rises, isSorted, rounds, rearrange}
-use Rattle.mixing.specs.Limits.{maxRounds}
-use Rattle.cylinder.specs.declared.Cylinder.{Cylinder}
-use Rattle.cylinder.specs.Layers.{layerVolumes}
-use Rattle.draw_off.specs.declared.Totals.{Totals}
-use Rattle.draw_off.specs.Event as Event
-use Rattle.draw_off.specs.Event.{Event, EventMixing, unmixed, mixed, eventMixing, eventOf, eventNumber}
+use Rattle.mixing.specs.Rearrange.{Mixing, sorted, unsorted, rearrange}
+use Rattle.mixing.proofs.Order.{accepted-rises}
+use Rattle.draw_off.specs.Event.{Event, EventMixing, unmixed, mixed}
 use Rattle.heating.specs.Switch.{atOrUnderLower, upperMissingOrReached}
 use Rattle.heating.specs.SwitchLaws.{latched}
 use Rattle.storage_tank.specs.declared.HeaterLine.{HeaterLine}
@@ -33,23 +26,15 @@ use Rattle.storage_tank.proofs.Members.{any, all-append, all-left, all-
 -- ---- a mixing
 
 abbrev pub Sorted : ℕ → Mixing → Type 0
-Sorted n (sorted temps k) = isSorted n temps ≡ true
+Sorted n (sorted temps k) = Nondecreasing n temps
 Sorted n unsorted = Unit {0}
 
-rounds-sorted : (left : ℕ) (b : Bool) (k n : ℕ) (vol temps : List Float) → (b ≡ true → isSorted n temps ≡ true) → Sorted n (rounds left b k n vol temps)
-unfolding rounds
-rounds-sorted zero true k n vol temps h = h refl
-rounds-sorted zero false k n vol temps h = tt
-rounds-sorted (suc left) true k n vol temps h = h refl
-rounds-sorted (suc left) false k n vol temps h = rounds-sorted left (isSorted n (oneRound n vol temps)) (k + 1) n vol (oneRound n vol temps) (λ e. e)
-
 pub rearrange-sorted : (n : ℕ) (vol temps : List Float) → Sorted n (rearrange n vol temps)
-unfolding rearrange
-rearrange-sorted n vol temps = rounds-sorted (maxRounds n) false 0 n vol temps (λ e. absurd (let z : _≡_ {A = ℕ} 0 1 = cc in omega arith))
-
-pub nondecreasing : (n : ℕ) (temps : List Float) → isSorted n temps ≡ true → Nondecreasing n temps
-unfolding isSorted
-nondecreasing n temps h i l = subst T (sym (holds-at (rises temps) (n - 1) 0 h i (omega arith) (omega arith))) tt
+rearrange-sorted n vol temps = go (rearrange n vol temps) refl
+  where
+    go : (x : Mixing) → rearrange n vol temps ≡ x → Sorted n x
+    go (sorted after k) e = λ i l. subst T (sym (accepted-rises n vol temps after k e i l)) tt
+    go unsorted e = tt
 
 -- ---- a statement of a work: of its mixings, of its turns, and of its end: a number above 0, or what R says of the turns and of where it ended
 

@@ -26,7 +26,7 @@ use Rattle.storage_tank.specs.Work.{Progress, Turn, End, refused, done, 
 use Rattle.storage_tank.specs.Course.{cylinderOf, volumesOf, ratedOf, heaterLayer, thermostatLayer, maxEnergy, TurnOf, FiguresOf}
 use Rattle.storage_tank.specs.Demand.{passed, RightlySupplied}
 use Rattle.storage_tank.proofs.Order.{heater-is}
-use Rattle.storage_tank.proofs.Steps.{Sorted, rearrange-sorted, nondecreasing, end-reach, Meets, began, ended, Law, first-law}
+use Rattle.storage_tank.proofs.Steps.{Sorted, rearrange-sorted, end-reach, Meets, began, ended, Law, first-law}
 
 module _ (m : TankDesign) (a : Step) where
   -- the heater h by make's arguments
@@ -132,7 +132,7 @@ module _ (m : TankDesign) (a : Step) where
         go unsorted o = unfold afterMixing turnNumber endBy in (tt, (refl, tt), (λ p. absurd p, tt), lit< tt)
         go (sorted after r) o = (
           tt,
-          (unfold afterMixing in (nondecreasing (m .layers) after o), tt),
+          (unfold afterMixing in o, tt),
           (right-after h s (sorted after r) f, tt),
           end-reach (Law (h ∷ []) s (turnAfter h s (sorted after r) ∷ [])) _ _
               (λ z. first-law s (turnAfter h s (sorted after r)) (afterTurn (turnAfter h s (sorted after r)) s) (omega (arith, l, f .2)) (omega (arith, k, f .2)) (flags-set h s after r) (unfold afterTurn in refl)),

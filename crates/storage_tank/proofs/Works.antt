@@ -29,37 +29,47 @@ use Rattle.storage_tank.specs.Course.{cylinderOf, ratedOf}
 use Rattle.storage_tank.specs.Demand.{EventOrderedOrNine}
 use Rattle.storage_tank.proofs.Members.{all-map}
 use Rattle.storage_tank.proofs.Order.{heater-is, heaters-many, order-below, order-once}
-use Rattle.storage_tank.proofs.Steps.{Sorted, rearrange-sorted, nondecreasing, end-reach, Meets, then-meets, meets-map, closing-meets, Law, both, law-still}
+use Rattle.storage_tank.proofs.Steps.{Sorted, rearrange-sorted, end-reach, Meets, then-meets, meets-map, closing-meets, Law, both, law-still}
 use Rattle.storage_tank.proofs.Turns.{Fair, Right, turn-meets}
 
 -- ---- the checks
 
-pub unless-passes : (b : Bool) (n : ℕ) (ns : List ℕ) → 0 < n → firstRefusal (unless b n ∷ ns) ≡ 0 → T b × (firstRefusal ns ≡ 0)
+unless-passes : (b : Bool) (n : ℕ) (ns : List ℕ) → 0 < n → firstRefusal (unless b n ∷ ns) ≡ 0 → T b × (firstRefusal ns ≡ 0)
 unfolding firstRefusal
 unless-passes true n ns l e = (tt, e)
 unless-passes false zero ns l e = absurd (omega arith)
 unless-passes false (suc n) ns l e = absurd (omega arith)
 
--- what the checks 2, 3 and 5 say
-pub tank-passes : (f : Fixed) (temps : Bool) (ns : List ℕ) → firstRefusal (tankChecks f temps ++ ns) ≡ 0
-    → T (leb (length (f .heaters)) maxHeaters) × T (isPositive (f .cylinder .timestep)) × ((h : ℕ) → h < length (f .heaters) → T (fairHeater (heaterOf f h)))
+-- what the checks 2 to 5 say
+pub record Passes (f : Fixed) (temps : Bool) : Type 0 where
+  pub layers : T (leb 1 (f .cylinder .layers) && leb (f .cylinder .layers) maxLayers)
+  pub heaters : T (leb (length (f .heaters)) maxHeaters)
+  pub timestep : T (isPositive (f .cylinder .timestep))
+  pub temperatures : T temps
+  pub fair : (h : ℕ) → h < length (f .heaters) → T (fairHeater (heaterOf f h))
+
+pub tank-passes : (f : Fixed) (temps : Bool) (ns : List ℕ) → firstRefusal (tankChecks f temps ++ ns) ≡ 0 → Passes f temps
 tank-passes f temps ns e =
     let c = f .cylinder in
     let heaters = holds (λ (h : ℕ). fairHeater (heaterOf f h)) (length (f .heaters)) 0 in
     let numbers = isPositive (c .volume) && isPositive (c .rho) && isPositive (c .cp) in
+    let standing = notNegative (c .standby) && finite (c .ambient) in
     let c1 = unless-passes (leb 1 (c .layers) && leb (c .layers) maxLayers) 1 _ (lit< tt) e in
     let c2 = unless-passes (leb (length (f .heaters)) maxHeaters) 2 _ (lit< tt) (c1 .1) in
     let c3 = unless-passes (numbers && isPositive (c .timestep)) 3 _ (lit< tt) (c2 .1) in
-    let c4 = unless-passes (notNegative (c .standby) && finite (c .ambient) && temps) 4 _ (lit< tt) (c3 .1) in
-    let c5 = unless-passes heaters 5 ns (lit< tt) (c4 .1) in (
-      c2 .0,
-      and-r numbers (isPositive (c .timestep)) (c3 .0),
-      λ h l. subst T (sym (holds-at (λ (k : ℕ). fairHeater (heaterOf f k)) (length (f .heaters)) 0 (is-true heaters (c5 .0)) h (omega arith) (omega arith))) tt,
-    )
+    let c4 = unless-passes (standing && temps) 4 _ (lit< tt) (c3 .1) in
+    let c5 = unless-passes heaters 5 ns (lit< tt) (c4 .1) in
+    record {
+      layers = c1 .0;
+      heaters = c2 .0;
+      timestep = and-r numbers (isPositive (c .timestep)) (c3 .0);
+      temperatures = and-r standing temps (c4 .0);
+      fair = λ h l. subst T (sym (holds-at (λ (k : ℕ). fairHeater (heaterOf f k)) (length (f .heaters)) 0 (is-true heaters (c5 .0)) h (omega arith) (omega arith))) tt;
+    }
 
 pub made-heaters : (m : TankDesign) → makeRefusal (fixedOf m) (m .initial) ≡ 0 → m .heaters ≤ maxHeaters
 unfolding makeRefusal
-made-heaters m e = subst (λ (k : ℕ). k ≤ maxHeaters) (heaters-many m) (leb→le _ maxHeaters (tank-passes (fixedOf m) (finite (m .initial)) [] e .0))
+made-heaters m e = subst (λ (k : ℕ). k ≤ maxHeaters) (heaters-many m) (leb→le _ maxHeaters (tank-passes (fixedOf m) (finite (m .initial)) [] e .heaters))
 
 heater-rated : (x : Placed) → T (fairHeater x) → T (notNegative (x .rated))
 heater-rated x t = and-l (notNegative (x .rated)) (isPosition (x .position)) (and-l (notNegative (x .rated) && isPosition (x .position)) (isPosition (x .thermostat)) t)
@@ -81,7 +91,7 @@ module _ (m : TankDesign) (a : Step) where
 
   event-hands : (x : EventMixing) (b : Bool) (s : Progress) → EventSorted x → EventOrderedOrNine (m .layers) (endBy (Event.numberAfter x b) s) x
   event-hands unmixed b s o = tt
-  event-hands (mixed (sorted temps k)) b s o = nondecreasing (m .layers) temps o
+  event-hands (mixed (sorted temps k)) b s o = o
   event-hands (mixed unsorted) b s o = unfold endBy in refl
 
   event-meets : (v : Float) (s : Progress) → MeetsIn (Law [] s) (event (cylinderOf m) (a .feed) v s)
@@ -142,7 +152,7 @@ module _ (m : TankDesign) (a : Step) where
       go (suc n) e = unfold begin in (tt, tt, tt, omega arith)
       go zero e = unfold begin stepRefusal in (
           let c = tank-passes (fixedOf m) (allFinite (m .layers) (st .temps)) (stepChecks (fixedOf m) a) (e refl) in
-          let fair = order-fair (leb→le (length (fixedOf m .heaters)) maxHeaters (c .0)) (c .2) in
+          let fair = order-fair (leb→le (length (fixedOf m .heaters)) maxHeaters (c .heaters)) (c .fair) in
           closing-meets (m .layers) (Right m a) law (andThen drawn (λ s. allTurns (fixedOf m) a s))
           (then-meets (m .layers) (Right m a) (Law [] (opening st)) law drawn (λ s. allTurns (fixedOf m) a s) (events-meets (wantedVolumes a) (opening st))
           (λ s1 a1.
@@ -151,4 +161,4 @@ module _ (m : TankDesign) (a : Step) where
               meets-map (m .layers) (Right m a) (Law (workingOrder (fixedOf m)) s2) (λ vs s3. law (drawn .turns ++ vs) s3)
               (λ vs s3 b1. both [] (workingOrder (fixedOf m)) (opening st) (drawn .turns) s2 vs s3 a2 b1 tt)
               (turns (fixedOf m) a (workingOrder (fixedOf m)) s2)
-              (turns-meets (c .1) (workingOrder (fixedOf m)) s2 fair (order-once (fixedOf m)) (a2 .flags-length ∙ unfold opening in l) (a2 .lines-length ∙ unfold opening in refl)))))
+              (turns-meets (c .timestep) (workingOrder (fixedOf m)) s2 fair (order-once (fixedOf m)) (a2 .flags-length ∙ unfold opening in l) (a2 .lines-length ∙ unfold opening in refl)))))
