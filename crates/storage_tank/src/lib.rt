@@ -1,4 +1,6 @@
 // The storage tank: what the calls make and step take and answer. A count may be any number; what is past it in an array is not looked at.
+pub mod checks;
+
 use heating::SetPoints;
 
 // The most heaters that a tank has, and the most draw events that a step has.
