@@ -7,3 +7,4 @@ pub mod Works
 pub mod Course
 pub mod Demand
 pub mod Calls
+pub mod FirstRefusal

@@ -34,7 +34,7 @@ use Rattle.storage_tank.proofs.Turns.{Fair, Right, turn-meets}
 
 -- ---- the checks
 
-unless-passes : (b : Bool) (n : ℕ) (ns : List ℕ) → 0 < n → firstRefusal (unless b n ∷ ns) ≡ 0 → T b × (firstRefusal ns ≡ 0)
+pub unless-passes : (b : Bool) (n : ℕ) (ns : List ℕ) → 0 < n → firstRefusal (unless b n ∷ ns) ≡ 0 → T b × (firstRefusal ns ≡ 0)
 unfolding firstRefusal
 unless-passes true n ns l e = (tt, e)
 unless-passes false zero ns l e = absurd (omega arith)
