@@ -1,4 +1,4 @@
--- Proves where the running group of a round starts (01, Mix): never above the lower layer of the pair that comes next.
+-- Proves what every pair of a round does to the running group (01, Mix): one of two things; and the group never starts above the lower layer of the next pair.
 use mathlib.Core.Bool.{Bool, true, false, cond}
 use mathlib.Core.List.{List}
 use Prim.Native.Nat.{ℕ, _+_, _≤_}
@@ -7,12 +7,21 @@ use lib.Ieee.{Float, nan}
 use lib.ListN.{getD}
 use Rattle.mixing.specs.Round.{Walk, joins, groupTemp, fill, pair}
 
-chosen : (b : Bool) (i : ℕ) (temps filled : List Float) (bottom : ℕ) → bottom ≤ i → cond {A = Walk} b (record { temps = filled; bottom = bottom }) (record { temps = temps; bottom = i + 1 }) .bottom ≤ i + 1
-chosen true i temps filled bottom h = omega arith
-chosen false i temps filled bottom h = omega arith
+module _ (n : ℕ) (vol : List Float) (i : ℕ) (w : Walk) where
+  -- the walk after a pair that joins, and after one that does not
+  abbrev pub joined : Walk
+  joined = record { temps = fill (w .bottom) (i + 2) (groupTemp n vol (w .temps) (w .bottom) (i + 2)) (w .temps); bottom = w .bottom }
 
-pub pair-bottom : (n : ℕ) (vol : List Float) (i : ℕ) (w : Walk) → w .bottom ≤ i → pair n vol i w .bottom ≤ i + 1
-unfolding pair
-pair-bottom n vol i w h =
-    chosen (joins (getD (w .temps) i nan) (getD (w .temps) (i + 1) nan)) i (w .temps)
-    (fill (w .bottom) (i + 2) (groupTemp n vol (w .temps) (w .bottom) (i + 2)) (w .temps)) (w .bottom) h
+  abbrev pub parted : Walk
+  parted = record { temps = w .temps; bottom = i + 1 }
+
+  pub pair-either : (P : Walk → Type 0) → P joined → P parted → P (pair n vol i w)
+  unfolding pair
+  pair-either P j p = go (joins (getD (w .temps) i nan) (getD (w .temps) (i + 1) nan))
+    where
+      go : (b : Bool) → P (cond b joined parted)
+      go true = j
+      go false = p
+
+  pub pair-bottom : w .bottom ≤ i → pair n vol i w .bottom ≤ i + 1
+  pair-bottom h = pair-either (λ (z : Walk). z .bottom ≤ i + 1) (omega arith) (omega arith)

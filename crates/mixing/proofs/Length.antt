@@ -1,19 +1,20 @@
 -- Proves that a mixing keeps the number of places (01, Mix).
-use mathlib.Core.Bool.{Bool, true, false, cond}
+use mathlib.Core.Bool.{Bool, true, false}
 use mathlib.Core.Path.{_≡_, refl, _∙_}
 use mathlib.Core.List.{List}
 use Prim.Native.Nat.{ℕ, zero, suc, _+_, _-_}
 use native.Mathlib.Omega.{arith}
-use lib.Ieee.{Float, nan}
-use lib.ListN.{length, getD, set, length-set}
+use lib.Ieee.{Float}
+use lib.ListN.{length, set, length-set}
 use Rattle.numeric.specs.Turns.{turns-keep}
 use Rattle.mixing.specs.Limits.{maxRounds}
-use Rattle.mixing.specs.Round.{Walk, joins, groupTemp, fill, pair, oneRound}
+use Rattle.mixing.specs.Round.{Walk, groupTemp, fill, pair, oneRound}
 use Rattle.mixing.specs.Rearrange.{isSorted, rounds, rearrange}
 use Rattle.mixing.specs.Mix.{tempsOf}
+use Rattle.mixing.proofs.Group.{pair-either}
 
 module _ (m : ℕ) where
-  abbrev Long : List Float → Type 0
+  abbrev pub Long : List Float → Type 0
   Long temps = length temps ≡ m
 
   fill-length : (i end : ℕ) (x : Float) (temps : List Float) → Long temps → Long (fill i end x temps)
@@ -21,15 +22,10 @@ module _ (m : ℕ) where
       turns-keep (λ (k : ℕ) (t : List Float). set t k x) Long (i + (end - i)) (λ k t h r. length-set t k x ∙ r) (end - i) i temps (omega arith) e
 
   module _ (n : ℕ) (vol : List Float) where
-    pair-length : (i : ℕ) (w : Walk) → Long (w .temps) → Long (pair n vol i w .temps)
-    unfolding pair
+    pub pair-length : (i : ℕ) (w : Walk) → Long (w .temps) → Long (pair n vol i w .temps)
     pair-length i w e =
-        chosen (joins (getD (w .temps) i nan) (getD (w .temps) (i + 1) nan)) (fill (w .bottom) (i + 2) (groupTemp n vol (w .temps) (w .bottom) (i + 2)) (w .temps))
-        (fill-length (w .bottom) (i + 2) (groupTemp n vol (w .temps) (w .bottom) (i + 2)) (w .temps) e)
-      where
-        chosen : (b : Bool) (filled : List Float) → Long filled → Long (cond {A = Walk} b (record { temps = filled; bottom = w .bottom }) (record { temps = w .temps; bottom = i + 1 }) .temps)
-        chosen true filled f = f
-        chosen false filled f = e
+        pair-either n vol i w (λ (z : Walk). Long (z .temps))
+        (fill-length (w .bottom) (i + 2) (groupTemp n vol (w .temps) (w .bottom) (i + 2)) (w .temps) e) e
 
     pub round-length : (temps : List Float) → Long temps → Long (oneRound n vol temps)
     unfolding oneRound

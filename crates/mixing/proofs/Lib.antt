@@ -1,3 +1,4 @@
+-- The laws of `mixing`, the lemmas that its proofs share, and the table of figures.
 pub mod Group
 pub mod Rounds
 pub mod Length

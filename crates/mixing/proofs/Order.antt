@@ -17,6 +17,10 @@ use Rattle.mixing.specs.Round.{oneRound}
 use Rattle.mixing.specs.Rearrange.{Mixing, sorted, unsorted, rises, isSorted, rounds, rearrange}
 use Rattle.mixing.proofs.Rounds.{rounds-sorted}
 
+-- 01's number: of at most 32 layers a mixing may run 64 rounds
+pub limit-64 : (n : ℕ) → n ≤ 32 → maxRounds n ≡ 64
+limit-64 n h = refl
+
 -- the layers after k rounds, in order or not
 unfoldable pub afterRounds : ℕ → ℕ → List Float → List Float → List Float
 afterRounds zero n vol temps = temps

@@ -15,8 +15,8 @@ use Rattle.mixing.specs.Limits.{maxRounds}
 use Rattle.mixing.specs.Round.{Walk, joins, groupTemp, heatTerm, volumeTerm, fill, pair, oneRound}
 use Rattle.mixing.specs.Rearrange.{Mixing, sorted, unsorted, rises, isSorted, rounds, rearrange}
 use Rattle.mixing.specs.Mix.{tempsOf}
-use Rattle.mixing.proofs.Group.{pair-bottom}
-use Rattle.mixing.proofs.Length.{rearrange-length}
+use Rattle.mixing.proofs.Group.{joined, parted, pair-bottom}
+use Rattle.mixing.proofs.Length.{pair-length, rearrange-length}
 
 -- the layers that a mixing leaves, with more places after them
 abbrev pub followedBy : List Float → Mixing → Mixing
@@ -55,13 +55,10 @@ module _ (n : ℕ) (vol vol′ ys : List Float) (v : SameBelow n vol vol′) whe
   abbrev Walked : ℕ → Walk → Walk → Type 0
   Walked i w z = (length (w .temps) ≡ n) × (w .bottom ≤ i) × (z ≡ record { temps = w .temps ++ ys; bottom = w .bottom })
 
-  chosen : (b : Bool) (i : ℕ) (xs filled : List Float) (bottom : ℕ) → length xs ≡ n → length filled ≡ n → length (cond {A = Walk} b (record { temps = filled; bottom = bottom }) (record { temps = xs; bottom = i + 1 }) .temps) ≡ n
-  chosen true i xs filled bottom e f = f
-  chosen false i xs filled bottom e f = e
-
-  spread : (b : Bool) (i : ℕ) (xs filled : List Float) (bottom : ℕ) → cond {A = Walk} b (record { temps = filled ++ ys; bottom = bottom }) (record { temps = xs ++ ys; bottom = i + 1 }) ≡ record { temps = cond {A = Walk} b (record { temps = filled; bottom = bottom }) (record { temps = xs; bottom = i + 1 }) .temps ++ ys; bottom = cond {A = Walk} b (record { temps = filled; bottom = bottom }) (record { temps = xs; bottom = i + 1 }) .bottom }
-  spread true i xs filled bottom = refl
-  spread false i xs filled bottom = refl
+  -- a choice between two walks, with the places past the layers in each, is the walk chosen with them
+  spread : (b : Bool) (j p : Walk) → cond {A = Walk} b (record { temps = j .temps ++ ys; bottom = j .bottom }) (record { temps = p .temps ++ ys; bottom = p .bottom }) ≡ record { temps = cond b j p .temps ++ ys; bottom = cond b j p .bottom }
+  spread true j p = refl
+  spread false j p = refl
 
   pair-first : (i : ℕ) (w z : Walk) → i < n - 1 → Walked i w z → Walked (i + 1) (pair n vol i w) (pair n vol′ i z)
   unfolding pair
@@ -71,9 +68,9 @@ module _ (n : ℕ) (vol vol′ ys : List Float) (v : SameBelow n vol vol′) whe
       let b = joins (getD xs i nan) (getD xs (i + 1) nan) in
       let x = groupTemp n vol xs (w .bottom) (i + 2) in
       let f = fill-first n x ys (w .bottom) (i + 2) xs (omega arith) (omega arith) e in (
-        chosen b i xs (fill (w .bottom) (i + 2) x xs) (w .bottom) e (f .0),
+        pair-length n n vol i w e,
         pair-bottom n vol i w (r .1),
-        rw (r .2, getD-first xs e i (omega arith), getD-first xs e (i + 1) (omega arith), groupTemp-first xs (w .bottom) (i + 2) e, f .1) (spread b i xs (fill (w .bottom) (i + 2) x xs) (w .bottom)),
+        rw (r .2, getD-first xs e i (omega arith), getD-first xs e (i + 1) (omega arith), groupTemp-first xs (w .bottom) (i + 2) e, f .1) (spread b (joined n vol i w) (parted n vol i w)),
       )
 
   round-first : (xs : List Float) → 1 ≤ n → length xs ≡ n → (length (oneRound n vol xs) ≡ n) × (oneRound n vol′ (xs ++ ys) ≡ oneRound n vol xs ++ ys)

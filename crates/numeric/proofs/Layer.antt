@@ -30,19 +30,19 @@ under n (fin true m e) = false
 under n (fin false m e) = ltb (m * up e) (n * down e)
 
 -- what is computed of each count of layers
-abbrev fine : ℕ → Bool
-fine n = positive (whole n) && (le (whole n) (whole n) && under n (largest ⊛ whole n))
+abbrev bounded : ℕ → Bool
+bounded n = positive (whole n) && (le (whole n) (whole n) && under n (largest ⊛ whole n))
 
-all-fine : holds fine 64 1 ≡ true
+all-bounded : holds bounded 64 1 ≡ true
 unfolding holds mul ofInt round le
-all-fine = refl
+all-bounded = refl
 
-abbrev none : ℕ → Bool
-none n = eqb (wholeBelow n (fin true 0 (pos 0))) 0 && eqb (wholeBelow n (fin false 0 (pos 0))) 0
+abbrev cut-zero : ℕ → Bool
+cut-zero n = eqb (wholeBelow n (fin true 0 (pos 0))) 0 && eqb (wholeBelow n (fin false 0 (pos 0))) 0
 
-all-none : holds none 64 1 ≡ true
+all-cut-zero : holds cut-zero 64 1 ≡ true
 unfolding holds wholeBelow ofInt round le
-all-none = refl
+all-cut-zero = refl
 
 -- a position above zero and below 1 is at most the largest double below 1
 room : (a d : ℕ) → a < 9007199254740992 → a < d → a * 9007199254740992 ≤ 9007199254740991 * d
@@ -131,17 +131,17 @@ no-minus m e a =
     omega arith
 
 module _ (layers : ℕ) (some : 1 ≤ layers) (most : layers ≤ 64) where
-  computed : T (fine layers)
-  computed = subst T (sym (holds-at fine 64 1 all-fine layers some (omega arith))) tt
+  counted : T (bounded layers)
+  counted = subst T (sym (holds-at bounded 64 1 all-bounded layers some (omega arith))) tt
 
   count-positive : T (positive (whole layers))
-  count-positive = and-l (positive (whole layers)) (le (whole layers) (whole layers) && under layers (largest ⊛ whole layers)) computed
+  count-positive = and-l (positive (whole layers)) (le (whole layers) (whole layers) && under layers (largest ⊛ whole layers)) counted
 
   rest : T (le (whole layers) (whole layers) && under layers (largest ⊛ whole layers))
-  rest = and-r (positive (whole layers)) (le (whole layers) (whole layers) && under layers (largest ⊛ whole layers)) computed
+  rest = and-r (positive (whole layers)) (le (whole layers) (whole layers) && under layers (largest ⊛ whole layers)) counted
 
-  zeros : T (none layers)
-  zeros = subst T (sym (holds-at none 64 1 all-none layers some (omega arith))) tt
+  zeros : T (cut-zero layers)
+  zeros = subst T (sym (holds-at cut-zero 64 1 all-cut-zero layers some (omega arith))) tt
 
   cast-zero : (s : Bool) → wholeBelow layers (fin s 0 (pos 0)) ≡ toUnsigned 64 (fin s 0 (pos 0))
   unfolding toUnsigned

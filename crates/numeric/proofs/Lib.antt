@@ -1,3 +1,4 @@
+-- The laws of `numeric`, and the lemmas that its proofs share.
 pub mod Infinity
 pub mod WholePart
 pub mod Layer

@@ -1,3 +1,4 @@
+-- The definitions of `numeric`: doubles and what 01, Arithmetic underneath, makes of them; how a specification writes a loop.
 pub mod Double
 pub mod Compare
 pub mod Close

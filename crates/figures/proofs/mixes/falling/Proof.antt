@@ -1,4 +1,4 @@
--- `mixes::falling` is safe and ends. The loop's invariant: i is at most 33.
+-- `mixes::falling` is safe and ends (01, Figures to hold it against). The loop's invariant: i is at most 33.
 use Prim.Native.Nat.{_≤_, _-_}
 use borrow.Author.Needs.{needs}
 use Rattle.figures.proofs.mixes.falling.Statement.{statement}

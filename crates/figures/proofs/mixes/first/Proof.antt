@@ -1,4 +1,4 @@
--- `mixes::first` is safe: there are at least n layers.
+-- `mixes::first` is safe (01, Figures to hold it against): there are at least n layers.
 use mathlib.Core.Path.{sym}
 use lib.Seq.{length-take-le}
 use borrow.Author.Needs.{needs}

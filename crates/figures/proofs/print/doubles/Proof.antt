@@ -1,4 +1,4 @@
--- `print::doubles` is safe and ends. The loop's invariant: i is at most the number of doubles.
+-- `print::doubles` is safe and ends (01, Job). The loop's invariant: i is at most the number of doubles.
 use Prim.Native.Nat.{_≤_, _-_}
 use lib.ListN.{length}
 use borrow.Author.Needs.{needs}

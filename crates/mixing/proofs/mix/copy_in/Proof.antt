@@ -1,4 +1,4 @@
--- `mix::copy_in` meets its contract. The loop's invariant: the first i places are copied.
+-- `mix::copy_in` meets its contract (01, The four calls). The loop's invariant: the first i places are copied.
 use mathlib.Core.Path.{_≡_, refl}
 use Prim.Native.Nat.{_-_, _≤_}
 use native.Mathlib.Omega.{arith}

@@ -1,4 +1,4 @@
--- `mix::copy_out` meets its contract. The loop's invariant: the first i places are copied, and the length is as it was.
+-- `mix::copy_out` meets its contract (01, The four calls). The loop's invariant: the first i places are copied, and the length is as it was.
 use mathlib.Core.Path.{_≡_, refl}
 use mathlib.Core.List.{append-nil}
 use Prim.Native.Nat.{_-_, _≤_}

@@ -1,4 +1,4 @@
--- `mix::mix`, the call, meets its contract: refusals 1 and 3 in the definition's order, and else the mixing.
+-- `mix::mix`, the call, meets its contract (01, The four calls): refusals 1 and 3 in the definition's order, and else the mixing.
 use mathlib.Core.Path.{_≡_}
 use borrow.Author.Tests.{eq-eqb, ne-eqb, lt-ltb, le-ltb, not-true, not-false}
 use Rattle.mixing.specs.Mix.{mixRefusal}

@@ -1,4 +1,4 @@
--- `mix::mix_array` meets its contract: in the array the layers are followed by zeros, which bear on nothing.
+-- `mix::mix_array` meets its contract (01, The four calls): in the array the layers are followed by zeros, which bear on nothing.
 use mathlib.Core.Path.{_≡_, sym, ap, _∙_}
 use mathlib.Core.List.{List, _++_}
 use Prim.Native.Nat.{_≤_}

@@ -1,4 +1,4 @@
--- `rearrange::is_sorted` meets its contract. The loop's invariant: each pair passed rises.
+-- `rearrange::is_sorted` meets its contract (01, Mix). The loop's invariant: each pair passed rises.
 use Prim.Native.Nat.{_-_}
 use borrow.Author.Tests.{not-true, not-false}
 use Rattle.numeric.specs.Holds.{Passed, passed-start, passed-turn, passed-fails, passed-end}

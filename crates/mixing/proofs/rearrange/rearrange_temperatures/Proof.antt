@@ -1,4 +1,4 @@
--- `rearrange::rearrange_temperatures` meets its contract. The loop's invariant: after k rounds, none of which gave order, the rounds left give the whole mixing.
+-- `rearrange::rearrange_temperatures` meets its contract (01, Mix). The loop's invariant: after k rounds, none of which gave order, the rounds left give the whole mixing.
 use mathlib.Core.Path.{_≡_, refl, sym, ap, _∙_}
 use mathlib.Core.Bool.{true, false}
 use Prim.Native.Nat.{_-_, _≤_}

@@ -1,4 +1,4 @@
--- `round::does_join` meets its contract: hotter, or else narrow-close.
+-- `round::does_join` meets its contract (01, Mix): hotter, or else narrow-close.
 use Rattle.mixing.specs.Round.{joins}
 use borrow.Author.Needs.{needs}
 use Rattle.mixing.proofs.round.does_join.Statement.{statement}

@@ -1,4 +1,4 @@
--- `round::fill_group` meets its contract. The loop's invariant: filling the places left gives the whole.
+-- `round::fill_group` meets its contract (01, Mix). The loop's invariant: filling the places left gives the whole.
 use Prim.Native.Nat.{ℕ, _-_}
 use native.Mathlib.Omega.{arith}
 use mathlib.Core.List.{List}

@@ -1,4 +1,4 @@
--- `round::group_temp` meets its contract. The loop's invariant: both accumulators have the terms below k, and what is left gives the whole sums.
+-- `round::group_temp` meets its contract (01, Mix). The loop's invariant: both accumulators have the terms below k, and what is left gives the whole sums.
 use Prim.Native.Nat.{_-_}
 use Rattle.numeric.specs.Turns.{Rest, rest-start, rest-turn, rest-end}
 use Rattle.numeric.specs.Sum2.{sumTurn, sum2-turns}

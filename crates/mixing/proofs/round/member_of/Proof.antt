@@ -1,4 +1,4 @@
--- `round::member_of` meets its contract: the two tests of the definition, in its order.
+-- `round::member_of` meets its contract (01, Mix): the two tests of the definition, in its order.
 use borrow.Author.Tests.{lt-ltb, le-ltb, le-leb, lt-leb}
 use Rattle.mixing.specs.Round.{member}
 use Rattle.mixing.proofs.round.member_of.Statement.{statement}

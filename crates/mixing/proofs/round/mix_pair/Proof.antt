@@ -1,4 +1,4 @@
--- `round::mix_pair` meets its contract: the pair joins and the group is filled, or it ends the group.
+-- `round::mix_pair` meets its contract (01, Mix): the pair joins and the group is filled, or it ends the group.
 use Rattle.mixing.specs.Round.{pair}
 use borrow.Author.Needs.{needs}
 use Rattle.mixing.proofs.round.mix_pair.Statement.{statement}

@@ -1,4 +1,4 @@
--- `round::mix_round` meets its contract. The loop's invariant: the pairs left, from the walk so far, give the whole round; the group starts at or below the next pair.
+-- `round::mix_round` meets its contract (01, Mix). The loop's invariant: the pairs left, from the walk so far, give the whole round; the group starts at or below the next pair.
 use mathlib.Core.Path.{ap}
 use Prim.Native.Nat.{_-_, _≤_}
 use native.Mathlib.Omega.{arith}

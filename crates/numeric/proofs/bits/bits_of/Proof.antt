@@ -1,4 +1,4 @@
--- `bits::bits_of` meets its contract: not-a-number is told by not equalling itself.
+-- `bits::bits_of` meets its contract (01, Job): not-a-number is told by not equalling itself.
 use lib.Ieee.{toBits}
 use Rattle.numeric.proofs.NotANumber.{equal-number, unequal-nan}
 use borrow.Author.Needs.{needs}

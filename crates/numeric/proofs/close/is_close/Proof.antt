@@ -1,4 +1,4 @@
--- `close::is_close` meets its contract: the tests of the definition, in its order.
+-- `close::is_close` meets its contract (01, Arithmetic underneath): the tests of the definition, in its order.
 use Rattle.numeric.specs.Close.{close}
 use borrow.Author.Needs.{needs}
 use Rattle.numeric.proofs.close.is_close.Statement.{statement}

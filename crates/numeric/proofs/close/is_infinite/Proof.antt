@@ -1,4 +1,4 @@
--- `close::is_infinite` meets its contract, by the laws of comparison with the infinities.
+-- `close::is_infinite` meets its contract (01, Arithmetic underneath), by the laws of comparison with the infinities.
 use Rattle.numeric.proofs.Infinity.{infinite-above, infinite-below}
 use Rattle.numeric.proofs.close.is_infinite.Statement.{statement}
 use Rattle.numeric.proofs.close.is_infinite.Tie as tie

@@ -1,4 +1,4 @@
--- `close::is_narrow_close` meets its contract: it is Close at the narrow tolerance.
+-- `close::is_narrow_close` meets its contract (01, Arithmetic underneath): it is Close at the narrow tolerance.
 use Rattle.numeric.specs.Close.{narrowClose}
 use borrow.Author.Needs.{needs}
 use Rattle.numeric.proofs.close.is_narrow_close.Statement.{statement}

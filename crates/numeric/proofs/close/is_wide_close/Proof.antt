@@ -1,4 +1,4 @@
--- `close::is_wide_close` meets its contract: it is Close at the wide tolerance.
+-- `close::is_wide_close` meets its contract (01, Arithmetic underneath): it is Close at the wide tolerance.
 use Rattle.numeric.specs.Close.{wideClose}
 use borrow.Author.Needs.{needs}
 use Rattle.numeric.proofs.close.is_wide_close.Statement.{statement}

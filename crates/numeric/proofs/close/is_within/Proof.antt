@@ -1,4 +1,4 @@
--- `close::is_within` meets its contract: the two tests of the definition, in its order.
+-- `close::is_within` meets its contract (01, Arithmetic underneath): the two tests of the definition, in its order.
 use Rattle.numeric.specs.Close.{within}
 use borrow.Author.Needs.{needs}
 use Rattle.numeric.proofs.close.is_within.Statement.{statement}

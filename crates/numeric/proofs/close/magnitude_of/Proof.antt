@@ -1,4 +1,4 @@
--- `close::magnitude_of` meets its contract: one test, one return for each answer.
+-- `close::magnitude_of` meets its contract (01, Arithmetic underneath): one test, one return for each answer.
 use Rattle.numeric.specs.Close.{magnitude}
 use Rattle.numeric.proofs.close.magnitude_of.Statement.{statement}
 use Rattle.numeric.proofs.close.magnitude_of.Tie as tie

@@ -1,4 +1,4 @@
--- `compare::is_finite` meets its contract, by the laws of comparison with the infinities.
+-- `compare::is_finite` meets its contract (01, refusals 3 to 10), by the laws of comparison with the infinities.
 use Rattle.numeric.proofs.Infinity.{finite-below, not-below}
 use Rattle.numeric.proofs.compare.is_finite.Statement.{statement}
 use Rattle.numeric.proofs.compare.is_finite.Tie as tie

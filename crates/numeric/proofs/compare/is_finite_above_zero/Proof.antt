@@ -1,4 +1,4 @@
--- `compare::is_finite_above_zero` meets its contract: the two tests of the definition, in its order.
+-- `compare::is_finite_above_zero` meets its contract (01, refusals 3 to 10): the two tests of the definition, in its order.
 use borrow.Author.Needs.{needs}
 use Rattle.numeric.proofs.compare.is_finite_above_zero.Statement.{statement}
 use Rattle.numeric.proofs.compare.is_finite_above_zero.Tie as tie

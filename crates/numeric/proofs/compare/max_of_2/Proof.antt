@@ -1,4 +1,4 @@
--- `compare::max_of_2` meets its contract: one test, one return for each answer.
+-- `compare::max_of_2` meets its contract (01, Arithmetic underneath): one test, one return for each answer.
 use Rattle.numeric.specs.Compare.{maxOf2}
 use Rattle.numeric.proofs.compare.max_of_2.Statement.{statement}
 use Rattle.numeric.proofs.compare.max_of_2.Tie as tie

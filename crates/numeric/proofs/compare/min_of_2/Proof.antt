@@ -1,4 +1,4 @@
--- `compare::min_of_2` meets its contract: one test, one return for each answer.
+-- `compare::min_of_2` meets its contract (01, Arithmetic underneath): one test, one return for each answer.
 use Rattle.numeric.specs.Compare.{minOf2}
 use Rattle.numeric.proofs.compare.min_of_2.Statement.{statement}
 use Rattle.numeric.proofs.compare.min_of_2.Tie as tie

@@ -1,4 +1,4 @@
--- `sum2::add_term` meets its contract: the operations are those of the definition, in its grouping.
+-- `sum2::add_term` meets its contract (01, Arithmetic underneath): the operations are those of the definition, in its grouping.
 use mathlib.Core.Path.{refl}
 use Rattle.numeric.specs.Sum2.{accumulate}
 use Rattle.numeric.proofs.sum2.add_term.Statement.{statement}

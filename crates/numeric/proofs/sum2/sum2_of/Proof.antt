@@ -1,4 +1,4 @@
--- `sum2::sum2_of` meets its contract. The loop's invariant: adding the terms left to the accumulator gives what adding all gives.
+-- `sum2::sum2_of` meets its contract (01, Arithmetic underneath). The loop's invariant: adding the terms left to the accumulator gives what adding all gives.
 use mathlib.Core.Path.{_≡_, ap}
 use Prim.Native.Nat.{_≤_, _<_, _-_}
 use native.Mathlib.Omega.{arith}

@@ -1,4 +1,4 @@
--- `whole::layer_of` meets its contract: the product, cut by `whole_below`.
+-- `whole::layer_of` meets its contract (01, Tank): the product, cut by `whole_below`.
 use Rattle.numeric.specs.Whole.{layerOf}
 use borrow.Author.Needs.{needs}
 use Rattle.numeric.proofs.whole.layer_of.Statement.{statement}

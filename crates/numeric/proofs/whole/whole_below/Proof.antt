@@ -1,4 +1,4 @@
--- `whole::whole_below` meets its contract. The loop's invariant: the answer below k is the answer below n.
+-- `whole::whole_below` meets its contract (01, Tank). The loop's invariant: the answer below k is the answer below n.
 use mathlib.Core.Path.{_≡_}
 use Prim.Native.Nat.{_≤_}
 use native.Mathlib.Omega.{arith}

@@ -1,4 +1,4 @@
--- `whole::whole_of` meets its contract: up to 2^53 the conversion is exact.
+-- `whole::whole_of` meets its contract (01, Tank): up to 2^53 the conversion is exact.
 use native.Mathlib.Omega.{arith}
 use lib.Dec.{le→leb}
 use lib.Ieee.{inFloat}
