@@ -1,6 +1,6 @@
 -- Proves that what a layer loses, and where it ends, depends on that layer alone (01, Losses and limit): so the losses can be worked in place.
-use mathlib.Core.Path.{_≡_, refl}
-use mathlib.Core.Bool.{Bool, cond, _&&_}
+use mathlib.Core.Path.{_≡_}
+use mathlib.Core.Bool.{cond, _&&_}
 use mathlib.Core.List.{List}
 use Prim.Native.Nat.{ℕ}
 use lib.ListN.{getD}

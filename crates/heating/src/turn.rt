@@ -88,16 +88,16 @@ fn after_mixing(
         temps,
         charged,
     );
-    let adjusted = done.adjusted;
+    let input_energy_adj = done.adjusted;
     let losses = done.losses;
-    let supplied = crate::supply::demand_energy(adjusted, energy);
+    let supplied = crate::supply::demand_energy(input_energy_adj, energy);
     let flag = crate::switch::determine_heat_source_switch_off(p, temps[thermostat], on);
-    let finite = is_turn_finite(c.layers, temps, adjusted, supplied, losses);
+    let finite = is_turn_finite(c.layers, temps, input_energy_adj, supplied, losses);
     TurnAnswer {
         number: number_of(finite),
         ran: on,
         flag,
-        adjusted,
+        adjusted: input_energy_adj,
         supplied,
         losses,
         rounds,

@@ -33,8 +33,8 @@ module _ (n : ℕ) (vol temps : List Float) where
       let filled = fill (w .bottom) (i + 2) x (w .temps) in (
         pair-bottom n vol i w (r .0),
         chosen (joins (getD (w .temps) i nan) (getD (w .temps) (i + 1) nan)) i (w .bottom) filled (w .temps)
-        (keeps-trans n temps (w .temps) filled (r .1) (fill-keeps n (w .bottom) (i + 2) x (w .temps) (omega arith) (omega arith)))
-        (r .1),
+            (keeps-trans n temps (w .temps) filled (r .1) (fill-keeps n (w .bottom) (i + 2) x (w .temps) (omega arith) (omega arith)))
+            (r .1),
       )
 
   round-keeps : Keeps n temps (oneRound n vol temps)

@@ -2,7 +2,7 @@
 -- accumulator has the losses below k.
 use Prim.Native.Nat.{ℕ, _-_}
 use native.Mathlib.Nat.{le-refl}
-use mathlib.Core.Path.{refl, _∙_}
+use mathlib.Core.Path.{_∙_}
 use lib.Ieee.{Float}
 use Rattle.numeric.specs.Double.{_⊕_}
 use Rattle.numeric.specs.Turns.{Rest, rest-start, rest-turn, rest-end}
@@ -10,7 +10,6 @@ use Rattle.numeric.specs.InPlace.{Updating, updating-start, updating-turn, upda
 use Rattle.numeric.specs.Sum2.{sumTurn, sum2-turns}
 use Rattle.heating.specs.Losses.{loss, losses, limitedTemp, tempsAfter, chargedAfter}
 use Rattle.heating.proofs.Layer.{loss-local, limited-local}
-use mathlib.Core.Path.{refl, _∙_}
 use borrow.Author.Needs.{needs}
 use Rattle.heating.proofs.losses.lose_heat.Statement.{statement}
 use Rattle.heating.proofs.losses.lose_heat.Tie as tie
