@@ -2,9 +2,8 @@
 use Prim.Native.Nat.{ℕ}
 use mathlib.Core.Bool.{Bool, cond}
 use mathlib.Core.List.{List}
-use lib.ListN.{getD, set, replicate}
 use lib.Dec.{eqb}
-use lib.Ieee.{Float, nan}
+use lib.Ieee.{Float}
 use Rattle.numeric.specs.Double.{_⊕_, _⊘_, zero-f}
 use Rattle.numeric.specs.Places.{updateFirst}
 use Rattle.cylinder.specs.declared.Cylinder.{Cylinder}

@@ -1,6 +1,6 @@
 -- States the two switches of a heater (01, Switch-on; Supply and switch-off): `determine_heat_source_switch_on` and `.._switch_off`.
 -- `t` is the temperature of the thermostat layer.
-use mathlib.Core.Bool.{Bool, true, false, cond, not, _&&_, _||_}
+use mathlib.Core.Bool.{Bool, true, false, cond, not, _||_}
 use lib.Ieee.{Float, nan, lt}
 use Rattle.numeric.specs.Close.{narrowClose}
 use Rattle.heating.specs.declared.SetPoints.{SetPoints}

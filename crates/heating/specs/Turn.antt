@@ -1,5 +1,6 @@
 -- States one turn of a heater (01, Turn): from its switch-on to its switch-off in one step, with that step's set points.
 use Prim.Native.Nat.{ℕ}
+use mathlib.Core.Path.{_≡_}
 use mathlib.Core.Bool.{Bool, cond, _&&_}
 use mathlib.Core.List.{List}
 use lib.ListN.{getD}
@@ -12,17 +13,14 @@ use Rattle.mixing.specs.Rearrange.{Mixing, sorted, unsorted, rearrange}
 use Rattle.cylinder.specs.declared.Cylinder.{Cylinder}
 use Rattle.cylinder.specs.Layers.{allFinite}
 use Rattle.heating.specs.declared.SetPoints.{SetPoints}
+use Rattle.heating.specs.declared.turn.TurnAnswer.{TurnAnswer}
 use Rattle.heating.specs.Switch.{switchOn, switchOff}
 use Rattle.heating.specs.Heat.{offer, heated}
 use Rattle.heating.specs.Losses as Losses
 use Rattle.heating.specs.Losses.{adjusted}
 use Rattle.heating.specs.Supply.{supply}
-
--- an immersion heater in a cylinder: its rated power, its layer and its thermostat's
-pub record Immersion : Type 0 where
-  pub rated : Float
-  pub layer : ℕ
-  pub thermostat : ℕ
+-- the heater of a turn: its rated power, its layer and its thermostat's
+pub use Rattle.heating.specs.declared.turn.Immersion.{Immersion}
 
 -- what a turn came to: whether the heater ran on, its mixing, and what follows a mixing that is not refused: the layers and the charged losses it leaves,
 -- its flag, and its figures
@@ -98,3 +96,21 @@ numberAfter (sorted temps k) finite = cond finite 0 10
 
 unfoldable pub turnNumber : Cylinder → Turned → ℕ
 turnNumber c u = numberAfter (u .mixing) (turnFinite c u)
+
+-- what the code answers for the turn u
+abbrev pub turnAnswer : Cylinder → Turned → TurnAnswer
+turnAnswer c u = record {
+  number = turnNumber c u;
+  ran = u .ran;
+  flag = u .flag;
+  adjusted = u .adjusted;
+  supplied = u .supplied;
+  losses = u .losses;
+  rounds = u .rounds;
+}
+
+-- r is the answer for the turn u, which left these layers and these charged losses
+pub record Worked (c : Cylinder) (u : Turned) (r : TurnAnswer) (temps charged : List Float) : Type 0 where
+  pub answers : r ≡ turnAnswer c u
+  pub leaves : temps ≡ u .temps
+  pub charges : charged ≡ u .charged

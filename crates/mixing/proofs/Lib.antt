@@ -6,3 +6,4 @@ pub mod Places
 pub mod Array
 pub mod Order
 pub mod Figures
+pub mod Keeps

@@ -10,3 +10,4 @@ pub mod Sum2
 pub mod Whole
 pub mod Places
 pub mod Products
+pub mod InPlace

@@ -1,0 +1,76 @@
+-- `heat::calc_temps_with_energy_input` meets its contract. The loop's invariant: heating the layers left gives the whole.
+use Prim.Native.Nat.{ℕ, _-_}
+use lib.Ieee.{Float}
+use Rattle.numeric.specs.Double.{_⊕_, _⊘_, zero-f}
+use Rattle.numeric.specs.Turns.{Rest, rest-start, rest-turn, rest-end}
+use Rattle.numeric.specs.Places.{updateTurn}
+use Rattle.cylinder.specs.Layers.{heatCapacity}
+use Rattle.heating.specs.Heat.{offer, heated}
+use borrow.Author.Needs.{needs}
+use Rattle.heating.proofs.heat.calc_temps_with_energy_input.Statement.{statement}
+use Rattle.heating.proofs.heat.calc_temps_with_energy_input.Tie as tie
+
+abbrev Inv-loop : tie.InvT-loop
+Inv-loop c vol on energy layer temps₀ n k₀ temps k = Rest (updateTurn (λ (j : ℕ) (t : Float). t ⊕ (offer on energy layer j ⊕ zero-f) ⊘ heatCapacity c vol j)) n temps₀ k temps
+
+abbrev μ-loop : tie.MeasureT-loop
+μ-loop c vol on energy layer temps₀ n k₀ temps k = n - k
+
+loop-holds : tie.Need-loop-holds Inv-loop μ-loop
+loop-holds c = rest-start _ _ _
+
+potential-energy-input-requires : tie.Need-potential-energy-input-requires Inv-loop μ-loop
+potential-energy-input-requires c κs = search needs
+
+mul-temps : tie.Need-mul-temps Inv-loop μ-loop
+mul-temps c = search needs
+
+element-copy-out-temps : tie.Need-element-copy-out-temps Inv-loop μ-loop
+element-copy-out-temps c = search needs
+
+mul-temps-2 : tie.Need-mul-temps-2 Inv-loop μ-loop
+mul-temps-2 c = search needs
+
+element-copy-out-temps-2 : tie.Need-element-copy-out-temps-2 Inv-loop μ-loop
+element-copy-out-temps-2 c = search needs
+
+mul-temps-3 : tie.Need-mul-temps-3 Inv-loop μ-loop
+mul-temps-3 c = search needs
+
+element-write-temps : tie.Need-element-write-temps Inv-loop μ-loop
+element-write-temps c = search needs
+
+add-k : tie.Need-add-k Inv-loop μ-loop
+add-k c = search needs
+
+loop-less : tie.Need-loop-less Inv-loop μ-loop
+loop-less c = search needs
+
+loop-again : tie.Need-loop-again Inv-loop μ-loop
+loop-again c =
+    let offered = c .before .before .before in
+    let test = offered .before in
+    rw (offered .potential-energy-input .ensures) (rest-turn _ _ _ _ _ (test .loop-test .taken) (test .before .loop .inv))
+
+returns : tie.Need-returns Inv-loop μ-loop
+unfolding heated
+returns c = rest-end _ _ _ _ _ (c .loop-test .left) (c .before .loop .inv)
+
+pub calc-temps-with-energy-input-spec : {M : Type 1} → statement M
+calc-temps-with-energy-input-spec =
+    tie.close
+    (tie.spec
+    Inv-loop
+    μ-loop
+    loop-holds
+    potential-energy-input-requires
+    mul-temps
+    element-copy-out-temps
+    mul-temps-2
+    element-copy-out-temps-2
+    mul-temps-3
+    element-write-temps
+    add-k
+    loop-less
+    loop-again
+    returns)

@@ -1,0 +1,22 @@
+-- `losses::calc_temps_after_thermal_losses` meets its contract: the surplus first, of the layers as the mixing left them.
+use borrow.Author.Needs.{needs}
+use Rattle.heating.proofs.losses.calc_temps_after_thermal_losses.Statement.{statement}
+use Rattle.heating.proofs.losses.calc_temps_after_thermal_losses.Tie as tie
+
+energy-surplus-requires : tie.Need-energy-surplus-requires
+energy-surplus-requires c κs = search needs
+
+adjusted-input-requires : tie.Need-adjusted-input-requires
+adjusted-input-requires c κs = search needs
+
+lose-heat-requires : tie.Need-lose-heat-requires
+lose-heat-requires c κs = search needs
+
+returns : tie.Need-returns
+returns c =
+    let done = c .lose-heat .ensures in
+    (rw (c .before .before .before .adjusted-input .ensures, c .before .before .before .before .energy-surplus .ensures), done .0, done .1, done .2)
+
+pub calc-temps-after-thermal-losses-spec : {M : Type 1} → statement M
+calc-temps-after-thermal-losses-spec =
+    tie.close (tie.spec energy-surplus-requires adjusted-input-requires lose-heat-requires returns)

@@ -1,0 +1,13 @@
+-- `losses::standing_loss` meets its contract.
+use borrow.Author.Needs.{needs}
+use Rattle.heating.proofs.losses.standing_loss.Statement.{statement}
+use Rattle.heating.proofs.losses.standing_loss.Tie as tie
+
+stand-by-losses-coefficient-requires : tie.Need-stand-by-losses-coefficient-requires
+stand-by-losses-coefficient-requires c κs = search needs
+
+returns : tie.Need-returns
+returns c = rw (c .before .before .before .before .before .stand-by-losses-coefficient .ensures)
+
+pub standing-loss-spec : {M : Type 1} → statement M
+standing-loss-spec = tie.close (tie.spec stand-by-losses-coefficient-requires returns)

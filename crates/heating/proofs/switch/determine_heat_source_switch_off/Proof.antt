@@ -1,0 +1,31 @@
+-- `switch::determine_heat_source_switch_off` meets its contract: the tests of the definition, in its order.
+use Rattle.heating.specs.Switch.{upperMissingOrReached, switchOff}
+use borrow.Author.Needs.{needs}
+use Rattle.heating.proofs.switch.determine_heat_source_switch_off.Statement.{statement}
+use Rattle.heating.proofs.switch.determine_heat_source_switch_off.Tie as tie
+
+has-upper-requires : tie.Need-has-upper-requires
+has-upper-requires c κs = search needs
+
+upper-of-requires : tie.Need-upper-of-requires
+upper-of-requires c κs = search needs
+
+is-reached-requires : tie.Need-is-reached-requires
+is-reached-requires c κs = search needs
+
+returns : tie.Need-returns
+unfolding switchOff upperMissingOrReached
+returns c = rw (← c .before .before .before .before .has-upper .ensures, c .before .before .before .if1 .taken, ← c .before .before .upper-of .ensures, ← c .before .is-reached .ensures, c .if2 .taken)
+
+returns-2 : tie.Need-returns-2
+unfolding switchOff upperMissingOrReached
+returns-2 c = rw (← c .before .before .before .before .has-upper .ensures, c .before .before .before .if1 .taken, ← c .before .before .upper-of .ensures, ← c .before .is-reached .ensures, c .if2 .left)
+
+returns-3 : tie.Need-returns-3
+unfolding switchOff upperMissingOrReached
+returns-3 c = rw (← c .before .has-upper .ensures, c .if1 .left)
+
+pub determine-heat-source-switch-off-spec : {M : Type 1} → statement M
+determine-heat-source-switch-off-spec =
+    tie.close
+    (tie.spec has-upper-requires upper-of-requires is-reached-requires returns returns-2 returns-3)

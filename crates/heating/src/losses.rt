@@ -1,0 +1,201 @@
+// `calc_temps_after_thermal_losses`. `before` are the layers on which the heater's turn began, `mixed` those that its mixing left, `charged` what
+// earlier heaters charged each layer this step.
+ghost use mathlib.Core.Path.{_≡_};
+ghost use mathlib.Core.Bool.{cond, _&&_};
+ghost use Prim.Native.Nat.{ℕ, _-_, _≤_, _<_};
+ghost use lib.Ieee.{Float};
+ghost use Rattle.numeric.specs.Turns.{turns};
+ghost use Rattle.numeric.specs.Double.{_⊕_, _⊖_, _⊛_, _⊘_, zero-f};
+ghost use Rattle.numeric.specs.Compare.{minOf2};
+ghost use Rattle.mixing.specs.Limits.{maxLayers};
+ghost use Rattle.heating.specs.Switch.{hasUpper, upperOf};
+ghost use Rattle.heating.specs.Losses.{clearlyAbove, overUpper, standbyCoefficient, loss, losses, tempsAfter, chargedAfter, surplusTerm, surplus, adjusted};
+use crate::SetPoints;
+use cylinder::Cylinder;
+use mixing::limits::MAX_LAYERS;
+
+// t is above u and not wide-close to it.
+fn is_clearly_above(t: f64, u: f64) -> bool
+    ensures { λ r. ⌜ r ≡ clearlyAbove t u ⌝ }
+{
+    if t > u {
+        return !numeric::close::is_wide_close(t, u);
+    }
+    false
+}
+
+fn is_over_upper(p: SetPoints, t: f64) -> bool
+    ensures { λ r. ⌜ r ≡ overUpper p t ⌝ }
+{
+    if crate::switch::has_upper(p) {
+        return is_clearly_above(t, crate::switch::upper_of(p));
+    }
+    false
+}
+
+// W/K: 45 is the standard test's water at 65 less its room at 20.
+fn stand_by_losses_coefficient(c: Cylinder) -> f64
+    ensures { λ r. ⌜ r ≡ standbyCoefficient c ⌝ }
+{
+    (1000.0 * c.standby) / (24.0 * 45.0)
+}
+
+// A warmed layer is counted at no more than the upper set point.
+fn counted_temp(p: SetPoints, warmed: bool, t: f64) -> f64
+    ensures { λ r. ⌜ r ≡ cond (hasUpper p && warmed) (minOf2 t (upperOf p)) t ⌝ }
+{
+    if crate::switch::has_upper(p) {
+        if warmed {
+            return numeric::compare::min_of_2(t, crate::switch::upper_of(p));
+        }
+        return t;
+    }
+    t
+}
+
+// What a layer of volume v at t loses in the step.
+fn standing_loss(c: Cylinder, v: f64, t: f64) -> f64
+    ensures { λ r. ⌜ r ≡ standbyCoefficient c ⊛ c .rho ⊛ c .cp ⊛ (v ⊘ c .volume) ⊛ (t ⊖ c .ambient) ⊛ c .timestep ⌝ }
+{
+    (stand_by_losses_coefficient(c) * c.rho * c.cp) * (v / c.volume) * (t - c.ambient) * c.timestep
+}
+
+// The loss of the layer k, less what earlier heaters charged it.
+fn thermal_loss(
+    c: Cylinder,
+    vol: &[f64; MAX_LAYERS],
+    p: SetPoints,
+    before: &[f64; MAX_LAYERS],
+    mixed: &[f64; MAX_LAYERS],
+    charged: &[f64; MAX_LAYERS],
+    k: usize,
+) -> f64
+    requires { ⌜ k < maxLayers ⌝ }
+    ensures { λ r. ⌜ r ≡ loss c (now (vol .entry)) p (now (before .entry)) (now (mixed .entry)) (now (charged .entry)) k ⌝ }
+{
+    let t = mixed[k];
+    let earlier = charged[k];
+    let warmed = is_clearly_above(t, before[k]);
+    let standing = standing_loss(c, vol[k], counted_temp(p, warmed, t));
+    numeric::compare::max_of_2(0.0, standing - earlier)
+}
+
+// A warmed layer over the upper set point ends exactly there; any other drops by its loss. `capacity` is the heat of one degree.
+fn limited_temp(p: SetPoints, warmed: bool, t: f64, lost: f64, capacity: f64) -> f64
+    ensures { λ r. ⌜ r ≡ cond (warmed && overUpper p t) (upperOf p) (t ⊖ lost ⊘ capacity) ⌝ }
+{
+    if warmed {
+        if is_over_upper(p, t) {
+            return crate::switch::upper_of(p);
+        }
+        return t - lost / capacity;
+    }
+    t - lost / capacity
+}
+
+// Heat less loss less heat at the set point, added plainly from the heater's layer up.
+fn sum_surplus(
+    c: Cylinder,
+    vol: &[f64; MAX_LAYERS],
+    p: SetPoints,
+    before: &[f64; MAX_LAYERS],
+    mixed: &[f64; MAX_LAYERS],
+    charged: &[f64; MAX_LAYERS],
+    layer: usize,
+) -> f64
+    requires { ⌜ (layer < c .layers) × (c .layers ≤ maxLayers) ⌝ }
+    ensures { λ r. ⌜ r ≡ turns (λ (k : ℕ) (s : Float). s ⊕ surplusTerm c (now (vol .entry)) p (now (before .entry)) (now (mixed .entry)) (now (charged .entry)) k) (c .layers - layer) layer zero-f ⌝ }
+{
+    let n = c.layers;
+    let upper = crate::switch::upper_of(p);
+    let mut s = 0.0;
+    let mut k = layer;
+    while k < n {
+        let lost = thermal_loss(c, vol, p, before, mixed, charged, k);
+        s = s + (c.rho * c.cp * vol[k] * mixed[k] - lost - c.rho * c.cp * vol[k] * upper);
+        k += 1;
+    }
+    s
+}
+
+// The surplus: 0 unless the heater's layer is over the upper set point.
+fn energy_surplus(
+    c: Cylinder,
+    vol: &[f64; MAX_LAYERS],
+    p: SetPoints,
+    before: &[f64; MAX_LAYERS],
+    mixed: &[f64; MAX_LAYERS],
+    charged: &[f64; MAX_LAYERS],
+    layer: usize,
+) -> f64
+    requires { ⌜ (layer < c .layers) × (c .layers ≤ maxLayers) ⌝ }
+    ensures { λ r. ⌜ r ≡ surplus c (now (vol .entry)) p (now (before .entry)) (now (mixed .entry)) (now (charged .entry)) layer ⌝ }
+{
+    if is_over_upper(p, mixed[layer]) {
+        return sum_surplus(c, vol, p, before, mixed, charged, layer);
+    }
+    0.0
+}
+
+// The input less the surplus, between 0 and the input; 0 if the input is not above zero.
+fn adjusted_input(input: f64, over: f64) -> f64
+    ensures { λ r. ⌜ r ≡ adjusted input over ⌝ }
+{
+    if input > 0.0 {
+        let left = numeric::compare::min_of_2(input - over, input);
+        return numeric::compare::max_of_2(0.0, left);
+    }
+    0.0
+}
+
+// Each layer's loss is charged, the layers lose it or are limited, in place; the answer is the heater's losses, over all layers.
+fn lose_heat(
+    c: Cylinder,
+    vol: &[f64; MAX_LAYERS],
+    p: SetPoints,
+    before: &[f64; MAX_LAYERS],
+    temps: &mut [f64; MAX_LAYERS],
+    charged: &mut [f64; MAX_LAYERS],
+) -> f64
+    requires { ⌜ c .layers ≤ maxLayers ⌝ }
+    ensures { λ r. ⌜ (r ≡ losses c (now (vol .entry)) p (now (before .entry)) (now (temps .entry)) (now (charged .entry))) × (now (temps .exit) ≡ tempsAfter c (now (vol .entry)) p (now (before .entry)) (now (temps .entry)) (now (charged .entry))) × (now (charged .exit) ≡ chargedAfter c (now (vol .entry)) p (now (before .entry)) (now (temps .entry)) (now (charged .entry))) ⌝ }
+{
+    let n = c.layers;
+    let mut a = numeric::sum2::start();
+    let mut k = 0;
+    while k < n {
+        let lost = thermal_loss(c, vol, p, before, temps, charged, k);
+        let warmed = is_clearly_above(temps[k], before[k]);
+        a = numeric::sum2::add_term(a, lost);
+        temps[k] = limited_temp(p, warmed, temps[k], lost, c.rho * c.cp * vol[k]);
+        charged[k] = charged[k] + lost;
+        k += 1;
+    }
+    numeric::sum2::total_of(a)
+}
+
+// What the losses and the limit come to: the adjusted input and the heater's losses.
+pub struct LossesAnswer {
+    pub adjusted: f64,
+    pub losses: f64,
+}
+
+// `temps` holds the mixed layers, and at the end those that the losses and the limit leave.
+pub fn calc_temps_after_thermal_losses(
+    c: Cylinder,
+    vol: &[f64; MAX_LAYERS],
+    p: SetPoints,
+    layer: usize,
+    input: f64,
+    before: &[f64; MAX_LAYERS],
+    temps: &mut [f64; MAX_LAYERS],
+    charged: &mut [f64; MAX_LAYERS],
+) -> LossesAnswer
+    requires { ⌜ (layer < c .layers) × (c .layers ≤ maxLayers) ⌝ }
+    ensures { λ r. ⌜ (r .adjusted ≡ adjusted input (surplus c (now (vol .entry)) p (now (before .entry)) (now (temps .entry)) (now (charged .entry)) layer)) × (r .losses ≡ losses c (now (vol .entry)) p (now (before .entry)) (now (temps .entry)) (now (charged .entry))) × (now (temps .exit) ≡ tempsAfter c (now (vol .entry)) p (now (before .entry)) (now (temps .entry)) (now (charged .entry))) × (now (charged .exit) ≡ chargedAfter c (now (vol .entry)) p (now (before .entry)) (now (temps .entry)) (now (charged .entry))) ⌝ }
+{
+    let over = energy_surplus(c, vol, p, before, temps, charged, layer);
+    let adjusted = adjusted_input(input, over);
+    let losses = lose_heat(c, vol, p, before, temps, charged);
+    LossesAnswer { adjusted, losses }
+}

@@ -1,0 +1,87 @@
+// The two switches of a heater. `t` is the temperature of the thermostat layer.
+ghost use mathlib.Core.Path.{_≡_};
+ghost use mathlib.Core.Bool.{_||_};
+ghost use lib.Ieee.{lt};
+ghost use Rattle.numeric.specs.Close.{narrowClose};
+ghost use Rattle.heating.specs.Switch.{hasUpper, upperOf, atOrUnderLower, reached, switchOn, switchOff};
+use crate::SetPoints;
+
+pub fn has_upper(p: SetPoints) -> bool
+    ensures { λ r. ⌜ r ≡ hasUpper p ⌝ }
+{
+    match p {
+        SetPoints::Neither => false,
+        SetPoints::Lower(_) => false,
+        SetPoints::Upper(_) => true,
+        SetPoints::Both(_, _) => true,
+    }
+}
+
+// The upper set point, not-a-number where there is none.
+pub fn upper_of(p: SetPoints) -> f64
+    ensures { λ r. ⌜ r ≡ upperOf p ⌝ }
+{
+    let none = 0.0 / 0.0;
+    match p {
+        SetPoints::Neither => none,
+        SetPoints::Lower(_) => none,
+        SetPoints::Upper(u) => u,
+        SetPoints::Both(_, u) => u,
+    }
+}
+
+fn is_at_or_under(t: f64, lower: f64) -> bool
+    ensures { λ r. ⌜ r ≡ (lt t lower || narrowClose t lower) ⌝ }
+{
+    if t < lower {
+        return true;
+    }
+    numeric::close::is_narrow_close(t, lower)
+}
+
+fn is_at_or_under_lower(p: SetPoints, t: f64) -> bool
+    ensures { λ r. ⌜ r ≡ atOrUnderLower p t ⌝ }
+{
+    match p {
+        SetPoints::Neither => false,
+        SetPoints::Lower(l) => is_at_or_under(t, l),
+        SetPoints::Upper(_) => false,
+        SetPoints::Both(l, _) => is_at_or_under(t, l),
+    }
+}
+
+// Above or narrow-close.
+fn is_reached(t: f64, upper: f64) -> bool
+    ensures { λ r. ⌜ r ≡ reached t upper ⌝ }
+{
+    if t > upper {
+        return true;
+    }
+    numeric::close::is_narrow_close(t, upper)
+}
+
+// No upper set point: off; else at or under a lower set point: on; else unchanged.
+pub fn determine_heat_source_switch_on(p: SetPoints, t: f64, flag: bool) -> bool
+    ensures { λ r. ⌜ r ≡ switchOn p t flag ⌝ }
+{
+    if has_upper(p) {
+        if is_at_or_under_lower(p, t) {
+            return true;
+        }
+        return flag;
+    }
+    false
+}
+
+// Off with no upper set point, or with it reached; else unchanged.
+pub fn determine_heat_source_switch_off(p: SetPoints, t: f64, flag: bool) -> bool
+    ensures { λ r. ⌜ r ≡ switchOff p t flag ⌝ }
+{
+    if has_upper(p) {
+        if is_reached(t, upper_of(p)) {
+            return false;
+        }
+        return flag;
+    }
+    false
+}

@@ -1,0 +1,100 @@
+-- `insert_heater` meets its contract. The loop's invariant: those worked before x have moved down, and inserting x among those left gives the whole.
+use mathlib.Core.Path.{sym, _∙_}
+use Prim.Native.Nat.{_+_, _-_}
+use native.Mathlib.Omega.{arith}
+use Rattle.working_order.specs.Order.{notAbove}
+use Rattle.working_order.proofs.Insert.{Inserting, inserting-start, inserting-turn, inserting-stop, inserting-end}
+use borrow.Author.Needs.{needs}
+use Rattle.working_order.proofs.insert_heater.Statement.{statement}
+use Rattle.working_order.proofs.insert_heater.Tie as tie
+
+abbrev Inv-loop : tie.InvT-loop
+Inv-loop n positions x order₀ j₀ order j = Inserting (notAbove positions) n x order₀ j order
+
+abbrev μ-loop : tie.MeasureT-loop
+μ-loop n positions x order₀ j₀ order j = n - j
+
+loop-holds : tie.Need-loop-holds Inv-loop μ-loop
+loop-holds c = inserting-start _ _ _ _ (c .pre .0) (c .pre .2) (c .pre .3)
+
+add-loop : tie.Need-add-loop Inv-loop μ-loop
+add-loop c = search needs
+
+add-y : tie.Need-add-y Inv-loop μ-loop
+add-y c = search needs
+
+mul-y : tie.Need-mul-y Inv-loop μ-loop
+mul-y c = search needs
+
+element-copy-out-y : tie.Need-element-copy-out-y Inv-loop μ-loop
+element-copy-out-y c = search needs
+
+is-not-above-requires : tie.Need-is-not-above-requires Inv-loop μ-loop
+is-not-above-requires c κs =
+    let at = c .before .before .loop in
+    (search needs, omega (arith, at .inv .numbers (at .j + 1) (omega arith) (omega arith)))
+
+mul-order : tie.Need-mul-order Inv-loop μ-loop
+mul-order c = search needs
+
+element-write-order : tie.Need-element-write-order Inv-loop μ-loop
+element-write-order c = search needs
+
+returns : tie.Need-returns Inv-loop μ-loop
+returns c =
+    let test = c .before .before .before in
+    let at = test .before .loop in
+    let done = inserting-stop _ _ _ _ _ _ (omega arith) (at .inv) (test .loop-test .taken) (sym (c .before .is-not-above .ensures) ∙ c .if1 .taken) in
+    (done .long, done .same)
+
+mul-order-2 : tie.Need-mul-order-2 Inv-loop μ-loop
+mul-order-2 c = search needs
+
+element-write-order-2 : tie.Need-element-write-order-2 Inv-loop μ-loop
+element-write-order-2 c = search needs
+
+add-j : tie.Need-add-j Inv-loop μ-loop
+add-j c = search needs
+
+loop-less : tie.Need-loop-less Inv-loop μ-loop
+loop-less c = search needs
+
+loop-again : tie.Need-loop-again Inv-loop μ-loop
+loop-again c =
+    let test = c .before .before .before in
+    inserting-turn _ _ _ _ _ _ (omega arith) (test .before .loop .inv) (test .loop-test .taken) (sym (c .before .is-not-above .ensures) ∙ c .if1 .left)
+
+mul-order-3 : tie.Need-mul-order-3 Inv-loop μ-loop
+mul-order-3 c = search needs
+
+element-write-order-3 : tie.Need-element-write-order-3 Inv-loop μ-loop
+element-write-order-3 c = search needs
+
+returns-2 : tie.Need-returns-2 Inv-loop μ-loop
+returns-2 c =
+    let done = inserting-end _ _ _ _ _ _ (omega arith) (c .before .loop .inv) (c .loop-test .left) in
+    (done .long, done .same)
+
+pub insert-heater-spec : {M : Type 1} → statement M
+insert-heater-spec =
+    tie.close
+    (tie.spec
+    Inv-loop
+    μ-loop
+    loop-holds
+    add-loop
+    add-y
+    mul-y
+    element-copy-out-y
+    is-not-above-requires
+    mul-order
+    element-write-order
+    returns
+    mul-order-2
+    element-write-order-2
+    add-j
+    loop-less
+    loop-again
+    mul-order-3
+    element-write-order-3
+    returns-2)

@@ -1,0 +1,43 @@
+-- `working_order` meets its contract. The loop's invariant: the places from x on hold the heaters from x on, in order.
+use mathlib.Core.Path.{refl}
+use native.Mathlib.Omega.{arith}
+use Rattle.working_order.specs.Order.{notAbove, risingOrder}
+use Rattle.working_order.proofs.Sorting.{Sorted, sorted-start, sorted-numbers, sorted-turn, sorted-end}
+use borrow.Author.Needs.{needs}
+use Rattle.working_order.proofs.working_order.Statement.{statement}
+use Rattle.working_order.proofs.working_order.Tie as tie
+
+abbrev Inv-loop : tie.InvT-loop
+Inv-loop n positions order₀ x₀ order x = Sorted (notAbove positions) n x order
+
+abbrev μ-loop : tie.MeasureT-loop
+μ-loop n positions order₀ x₀ order x = x
+
+loop-holds : tie.Need-loop-holds Inv-loop μ-loop
+loop-holds c = sorted-start _ _ _ refl
+
+sub-x : tie.Need-sub-x Inv-loop μ-loop
+sub-x c = search needs
+
+insert-heater-requires : tie.Need-insert-heater-requires Inv-loop μ-loop
+insert-heater-requires c κs =
+    let at = c .before .before .loop in
+    (omega arith, omega arith, at .inv .long, λ k h u. sorted-numbers _ _ _ _ (at .inv) k (omega arith) u)
+
+loop-less : tie.Need-loop-less Inv-loop μ-loop
+loop-less c = search needs
+
+loop-again : tie.Need-loop-again Inv-loop μ-loop
+loop-again c =
+    let test = c .before .before in
+    let done = c .insert-heater .ensures in
+    sorted-turn _ _ _ _ _ (test .loop-test .taken) (test .before .loop .inv) (done .0) (done .1)
+
+returns : tie.Need-returns Inv-loop μ-loop
+unfolding risingOrder
+returns c = sorted-end _ _ _ _ (c .loop-test .left) (c .before .loop .inv)
+
+pub working-order-spec : {M : Type 1} → statement M
+working-order-spec =
+    tie.close
+    (tie.spec Inv-loop μ-loop loop-holds sub-x insert-heater-requires loop-less loop-again returns)
