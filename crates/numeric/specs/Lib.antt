@@ -7,3 +7,4 @@ pub mod Tabulate
 pub mod Sum2
 pub mod Whole
 pub mod Places
+pub mod Descent
