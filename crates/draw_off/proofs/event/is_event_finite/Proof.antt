@@ -1,34 +1,35 @@
+-- `event::is_event_finite` meets its contract: the three tests of the definition, in its order.
+use borrow.Author.Tests.{not-true, not-false}
+use Rattle.draw_off.specs.Event.{eventFinite}
 use borrow.Author.Needs.{needs}
 use Rattle.draw_off.proofs.event.is_event_finite.Statement.{statement}
 use Rattle.draw_off.proofs.event.is_event_finite.Tie as tie
-use Rattle.draw_off.proofs.event.is_event_finite.Reads as reads
-use Rattle.draw_off.proofs.event.is_event_finite.Lts as lts
-use Rattle.cylinder.proofs.are_finite.Reads as are-finite-reads
-use Rattle.numeric.proofs.compare.is_finite.Reads as is-finite-reads
 
--- src/event.rt:59:9
 are-finite-requires : tie.Need-are-finite-requires
 are-finite-requires c κs = search needs
 
--- src/event.rt:60:9
 returns : tie.Need-returns
-returns c = search needs
+unfolding eventFinite
+returns c = rw (← c .before .are-finite .ensures, not-true (c .before .are-finite .result) (c .if1 .taken))
 
--- src/event.rt:62:9
 is-finite-requires : tie.Need-is-finite-requires
 is-finite-requires c κs = search needs
 
--- src/event.rt:63:9
 returns-2 : tie.Need-returns-2
-returns-2 c = search needs
+unfolding eventFinite
+returns-2 c =
+    let first = c .before .before in
+    rw (← first .before .are-finite .ensures, not-false (first .before .are-finite .result) (first .if1 .left), ← c .before .is-finite .ensures, not-true (c .before .is-finite .result) (c .if2 .taken))
 
--- src/event.rt:65:5
 is-finite-requires-2 : tie.Need-is-finite-requires-2
 is-finite-requires-2 c κs = search needs
 
--- src/event.rt:54:1
 returns-3 : tie.Need-returns-3
-returns-3 c = search needs
+unfolding eventFinite
+returns-3 c =
+    let second = c .before in
+    let first = second .before .before in
+    rw (← first .before .are-finite .ensures, not-false (first .before .are-finite .result) (first .if1 .left), ← second .before .is-finite .ensures, not-false (second .before .is-finite .result) (second .if2 .left)) (c .is-finite2 .ensures)
 
 pub is-event-finite-spec : {M : Type 1} → statement M
 is-event-finite-spec =

@@ -1,26 +1,29 @@
+-- `event::mix_event` meets its contract: the event ends in a mixing, or it does not.
+use mathlib.Core.Path.{refl, _∙_}
+use Rattle.mixing.specs.Rearrange.{rearrange}
+use Rattle.draw_off.specs.Event.{eventMixing}
+use Rattle.draw_off.proofs.Numbers.{mixing-number}
 use borrow.Author.Needs.{needs}
 use Rattle.draw_off.proofs.event.mix_event.Statement.{statement}
 use Rattle.draw_off.proofs.event.mix_event.Tie as tie
-use Rattle.draw_off.proofs.event.mix_event.Reads as reads
-use Rattle.draw_off.proofs.event.mix_event.Lts as lts
-use Rattle.draw_off.proofs.event.number_of.Reads as number-of-reads
-use Rattle.mixing.proofs.rearrange.rearrange_temperatures.Reads as rearrange-temperatures-reads
 
--- src/event.rt:48:26
 rearrange-temperatures-requires : tie.Need-rearrange-temperatures-requires
 rearrange-temperatures-requires c κs = search needs
 
--- src/event.rt:48:9
 number-of-requires : tie.Need-number-of-requires
 number-of-requires c κs = search needs
 
--- src/event.rt:48:9
 returns : tie.Need-returns
-returns c = search needs
+unfolding eventMixing
+returns c =
+    let mixed = c .before in
+    let at = mixed .before .before in
+    let a = at .before .args in
+    rw (at .if1 .taken, ← at .before .pre .2) (c .number-of .ensures ∙ (rw (mixed .rearrange-temperatures .ensures .0) (mixing-number (rearrange (a .c .layers) (a .vol .now) (a .temps .now)))), mixed .rearrange-temperatures .ensures .1)
 
--- src/event.rt:37:1
 returns-2 : tie.Need-returns-2
-returns-2 c = search needs
+unfolding eventMixing
+returns-2 c = rw (c .if1 .left) (refl, refl)
 
 pub mix-event-spec : {M : Type 1} → statement M
 mix-event-spec =

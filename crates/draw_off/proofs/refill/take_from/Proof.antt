@@ -1,29 +1,25 @@
+-- `refill::take_from` meets its contract: a layer that holds more than zero gives its share, and any other is not met.
+use Rattle.draw_off.specs.Refill.{takeFrom}
 use borrow.Author.Needs.{needs}
 use Rattle.draw_off.proofs.refill.take_from.Statement.{statement}
 use Rattle.draw_off.proofs.refill.take_from.Tie as tie
-use Rattle.draw_off.proofs.refill.take_from.Reads as reads
-use Rattle.draw_off.proofs.refill.take_from.Lts as lts
-use Rattle.draw_off.proofs.refill.take_share.Reads as take-share-reads
 
--- src/refill.rt:63:8
 mul-if1 : tie.Need-mul-if1
 mul-if1 c = search needs
 
--- src/refill.rt:63:8
 element-copy-out-if1 : tie.Need-element-copy-out-if1
 element-copy-out-if1 c = search needs
 
--- src/refill.rt:64:9
 take-share-requires : tie.Need-take-share-requires
 take-share-requires c κs = search needs
 
--- src/refill.rt:64:9
 returns : tie.Need-returns
-returns c = search needs
+unfolding takeFrom
+returns c = λ vol feed. rw (c .before .before .if1 .taken) (c .take-share .ensures vol feed)
 
--- src/refill.rt:54:1
 returns-2 : tie.Need-returns-2
-returns-2 c = search needs
+unfolding takeFrom
+returns-2 c = λ vol feed. rw (c .if1 .left)
 
 pub take-from-spec : {M : Type 1} → statement M
 take-from-spec =

@@ -1,0 +1,3 @@
+pub mod Descents
+pub mod Filled
+pub mod Numbers
