@@ -7,7 +7,7 @@ use Rattle.numeric.specs.Descent.{Descent, descent-start, descent-turn, descent
 use Rattle.draw_off.specs.Refill.{takeFrom, entersWarmer, refillLayer, refill}
 use Rattle.draw_off.specs.Lent.{fillingWith, refillOf}
 use Rattle.draw_off.proofs.Descents.{lackNone, lacksNone, refill-descends}
-use Rattle.draw_off.proofs.Filled.{layer-refilled, mixes-now, mixes-still}
+use Rattle.draw_off.proofs.Filled.{lack-told, layer-refilled, mixes-now, mixes-still}
 use borrow.Author.Needs.{needs}
 use Rattle.draw_off.proofs.refill.calc_temps_after_extraction.Statement.{statement}
 use Rattle.draw_off.proofs.refill.calc_temps_after_extraction.Tie as tie
@@ -77,7 +77,8 @@ donors-again : tie.Need-donors-again Inv-donors μ-donors Inv-filling μ-filling
 donors-again c =
     let none = c .before .before .before in
     let test = none .before .before in
-    rw (c .take-from .ensures _ _) (descent-turn _ _ _ _ _ _ (test .donors-test .taken) (sym (none .before .is-no-volume2 .ensures) ∙ none .if2 .left) (test .before .donors .inv))
+    let a = test .before .before .before .before .before .before .before .before .before .before .args in
+    rw (c .take-from .ensures (a .vol .now) (a .feed)) (descent-turn _ _ _ _ _ _ (test .donors-test .taken) (sym (none .before .is-no-volume2 .ensures) ∙ none .if2 .left) (test .before .donors .inv))
 
 does-enter-warmer-requires :
     tie.Need-does-enter-warmer-requires Inv-donors μ-donors Inv-filling μ-filling
@@ -107,11 +108,24 @@ filling-again c =
     let fed = c .before in
     let warm = fed .before .before in
     let donors = warm .before .before in
-    let start = donors .before .before .before in
+    let none = donors .before in
+    let start = none .before .before in
     let test = start .before .before .before in
     let at = test .before in
-    rw (layer-refilled _ _ _ _ _ _ _ _ (start .start-filling .result) (donors .donors .f) (fed .take-from-feed .result) _ (start .start-filling .ensures) (from-donors _) (fed .take-from-feed .ensures _ _ _) (mixes-after _))
-    (descent-turn _ _ _ _ _ _ (test .filling-test .taken) ? (at .filling .inv))
+    let a = at .before .before .args in
+    let warmer = warm .does-enter-warmer .ensures (a .vol .now) (a .temps .now) (donors .donors .held) in
+    rw
+    (layer-refilled (a .vol .now) (a .feed) (a .temps .now) _ (at .filling .held) (at .filling .temps) (at .filling .mixes) (donors .donors .held) (start .start-filling .result) (donors .donors .f) (fed .take-from-feed .result) _ (start .start-filling .ensures)
+    (⊎-elim
+    (λ w. descent-end _ _ _ _ _ _ (w .0 .left) (donors .donors .inv))
+    (λ w. descent-stop _ _ _ _ _ _ (w .0 .taken) (sym (w .1 .ensures) ∙ w .2 .taken) (donors .donors .inv))
+    (warm .before .donors-test .came))
+    (fed .take-from-feed .ensures _ _ _)
+    (⊎-elim
+    (λ w. mixes-now (at .filling .mixes) _ _ (sym warmer ∙ w .0 .taken) (w .1))
+    (λ w. mixes-still (at .filling .mixes) _ _ (sym warmer ∙ w .0 .left) (w .1))
+    (fed .before .if3 .came)))
+    (descent-turn _ _ _ _ _ _ (test .filling-test .taken) (lack-told _ _ _ (start .start-filling .result) _ _ (start .start-filling .ensures) (none .before .is-no-volume .ensures) (none .if1 .left)) (at .filling .inv))
 
 returns : tie.Need-returns Inv-donors μ-donors Inv-filling μ-filling
 unfolding refill
@@ -119,7 +133,10 @@ returns c = rw refill-descends (descent-end _ _ _ _ _ _ (c .filling-test .left) 
 
 returns-2 : tie.Need-returns-2 Inv-donors μ-donors Inv-filling μ-filling
 unfolding refill
-returns-2 c = ?
+returns-2 c =
+    let start = c .before .before in
+    let test = start .before .before .before in
+    rw refill-descends (descent-stop _ _ _ _ _ _ (test .filling-test .taken) (lack-told _ _ _ (start .start-filling .result) _ _ (start .start-filling .ensures) (c .before .is-no-volume .ensures) (c .if1 .taken)) (test .before .filling .inv))
 
 pub calc-temps-after-extraction-spec : {M : Type 1} → statement M
 calc-temps-after-extraction-spec =
