@@ -2,3 +2,4 @@ pub mod Cold
 pub mod Draw
 pub mod Refill
 pub mod Event
+pub mod Lent

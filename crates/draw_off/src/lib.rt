@@ -1,4 +1,8 @@
 // The draw events of a step: `extract_hot_water`, `calc_temps_after_extraction`, and the mixing of an event that warms the tank from below.
+pub mod cold;
+pub mod draw;
+pub mod event;
+pub mod refill;
 
 // What a step has drawn so far: the energy withdrawn (kWh), the volume used (litres), the temperatures weighted by volume, and the volume drawn.
 pub struct Totals {

@@ -11,3 +11,4 @@ pub mod Whole
 pub mod Places
 pub mod Products
 pub mod InPlace
+pub mod Descent

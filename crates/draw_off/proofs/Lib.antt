@@ -1,0 +1,4 @@
+pub mod Descents
+pub mod Filled
+pub mod Numbers
+pub mod Worked

@@ -1,0 +1,56 @@
+-- Proves an event from its parts in the order of the work (01, Draw; Refill; refusals 9 and 10), and the events of a step one at a time.
+use Prim.Native.Nat.{ℕ, zero, suc, _+_, _-_, _≤_, _<_}
+use native.Mathlib.Omega.{arith}
+use mathlib.Core.Path.{_≡_, refl, sym, subst, _∙_}
+use mathlib.Core.Bool.{Bool, true}
+use mathlib.Core.List.{List, [], _∷_}
+use lib.Ieee.{Float}
+use Rattle.numeric.specs.Double.{_⊕_}
+use Rattle.numeric.specs.Tabulate.{tabulate}
+use Rattle.cylinder.specs.declared.Cylinder.{Cylinder}
+use Rattle.cylinder.specs.Layers.{layerVolumes}
+use Rattle.draw_off.specs.declared.Totals.{Totals}
+use Rattle.draw_off.specs.declared.draw.Drawn.{Drawn}
+use Rattle.draw_off.specs.declared.event.EventAnswer.{EventAnswer}
+use Rattle.draw_off.specs.Draw.{extract, volumeUsed}
+use Rattle.draw_off.specs.Refill.{refill}
+use Rattle.draw_off.specs.Event.{EventMixing, Drawing, eventMixing, mixedTemps, eventFinite, numberAfter, eventOf, tempsAfterEvent, totalsAfterEvent, eventNumber, drawAll}
+use Rattle.draw_off.specs.Lent.{drawOf, refillOf, drawingOf, drawingAfter}
+
+-- what the step has drawn after an event that drew d and used so much
+abbrev totalsWith : Totals → Drawn → Float → Totals
+totalsWith t d used = record { energy = t .energy ⊕ d .energy; used = t .used ⊕ used; weighted = d .weighted; drawn = d .drawn }
+
+module _ (c : Cylinder) (feed : Float) where
+  pub event-worked : (wanted : Float) (temps : List Float) (t : Totals) (vol : List Float) → vol ≡ layerVolumes c → (held : List Float) (d : Drawn) (used : Float) → drawOf held d ≡ extract c vol feed temps wanted (t .weighted) (t .drawn) → used ≡ volumeUsed c held → (given filled : List Float) (mixes : Bool) → refillOf given filled mixes ≡ refill (c .layers) vol feed temps held → (after : List Float) (finite : Bool) (first number : ℕ) → (first ≡ numberAfter (eventMixing mixes c filled) true) × (after ≡ mixedTemps filled (eventMixing mixes c filled)) → finite ≡ eventFinite c after (totalsWith t d used) → ((m : EventMixing) → first ≡ numberAfter m true → number ≡ numberAfter m finite) → drawingOf after (record { number = number; totals = totalsWith t d used }) ≡ drawingAfter c (eventOf c feed wanted temps t) t
+  unfolding eventOf tempsAfterEvent totalsAfterEvent eventNumber
+  event-worked wanted temps t vol v held d used draws uses given filled mixes fills after finite first number mixing tested told =
+      rw (← v, ← draws, ← fills, told (eventMixing mixes c filled) (mixing .0), tested, mixing .1, uses)
+
+  -- with no event left, the events have come to what they have come to
+  pub events-end : (v : ℕ → Float) (n k : ℕ) (temps : List Float) (t : Totals) (R : Drawing) → n ≤ k → drawAll c feed (tabulate v (n - k) k) 0 temps t ≡ R → record { number = 0; temps = temps; totals = t } ≡ R
+  unfolding tabulate drawAll
+  events-end v n k temps t R h left =
+      let z : n - k ≡ 0 = omega arith in
+      rw z at left
+
+  ended : (vs : List Float) (n : ℕ) (temps : List Float) (t : Totals) → (n ≡ 0 → ⊥) → drawAll c feed vs n temps t ≡ record { number = n; temps = temps; totals = t }
+  unfolding drawAll
+  ended [] n temps t h = refl
+  ended (v ∷ vs) zero temps t h = absurd (h refl)
+  ended (v ∷ vs) (suc n) temps t h = refl
+
+  -- the event of the volume v k, which answers a and leaves the layers `after`
+  module _ (v : ℕ → Float) (n k : ℕ) (temps after : List Float) (t : Totals) (a : EventAnswer) (R : Drawing) (h : k < n) (left : drawAll c feed (tabulate v (n - k) k) 0 temps t ≡ R) (e : drawingOf after a ≡ drawingAfter c (eventOf c feed (v k) temps t) t) where
+    next : drawAll c feed (tabulate v (n - (k + 1)) (k + 1)) (a .number) after (a .totals) ≡ R
+    unfolding tabulate drawAll
+    next =
+        let m : n - k ≡ suc (n - (k + 1)) = omega arith in
+        subst (λ (d : Drawing). drawAll c feed (tabulate v (n - (k + 1)) (k + 1)) (d .number) (d .temps) (d .totals) ≡ R) (sym e) (rw m at left)
+
+    pub events-turn : a .number ≡ 0 → drawAll c feed (tabulate v (n - (k + 1)) (k + 1)) 0 after (a .totals) ≡ R
+    events-turn z = rw z at next
+
+    -- a refused event ends them
+    pub events-refused : (a .number ≡ 0 → ⊥) → drawingOf after a ≡ R
+    events-refused z = sym (ended (tabulate v (n - (k + 1)) (k + 1)) (a .number) after (a .totals) z) ∙ next

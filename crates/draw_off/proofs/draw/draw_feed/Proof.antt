@@ -1,0 +1,22 @@
+-- `draw::draw_feed` meets its contract: a rest above zero counts at the feed's temperature, over water at cold(rest).
+use Rattle.draw_off.specs.Draw.{drawFeed}
+use borrow.Author.Needs.{needs}
+use Rattle.draw_off.proofs.draw.draw_feed.Statement.{statement}
+use Rattle.draw_off.proofs.draw.draw_feed.Tie as tie
+
+cold-temp-requires : tie.Need-cold-temp-requires
+cold-temp-requires c κs = search needs
+
+count-share-requires : tie.Need-count-share-requires
+count-share-requires c κs = search needs
+
+returns : tie.Need-returns
+unfolding drawFeed
+returns c = λ held temps wanted. rw (c .before .before .if1 .taken, ← c .before .cold-temp .ensures) (c .count-share .ensures held)
+
+returns-2 : tie.Need-returns-2
+unfolding drawFeed
+returns-2 c = λ held temps wanted. rw (c .if1 .left)
+
+pub draw-feed-spec : {M : Type 1} → statement M
+draw-feed-spec = tie.close (tie.spec cold-temp-requires count-share-requires returns returns-2)

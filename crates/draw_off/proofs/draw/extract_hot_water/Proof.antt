@@ -1,0 +1,18 @@
+-- `draw::extract_hot_water` meets its contract: the layers from full ones, and then the feed.
+use Rattle.draw_off.specs.Draw.{extract}
+use borrow.Author.Needs.{needs}
+use Rattle.draw_off.proofs.draw.extract_hot_water.Statement.{statement}
+use Rattle.draw_off.proofs.draw.extract_hot_water.Tie as tie
+
+draw-layers-requires : tie.Need-draw-layers-requires
+draw-layers-requires c κs = search needs
+
+draw-feed-requires : tie.Need-draw-feed-requires
+draw-feed-requires c κs = search needs
+
+returns : tie.Need-returns
+unfolding extract
+returns c = rw (← c .before .draw-layers .ensures) (c .draw-feed .ensures _ _ _)
+
+pub extract-hot-water-spec : {M : Type 1} → statement M
+extract-hot-water-spec = tie.close (tie.spec draw-layers-requires draw-feed-requires returns)

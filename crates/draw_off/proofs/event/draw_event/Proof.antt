@@ -1,0 +1,46 @@
+-- `event::draw_event` meets its contract: the draw, the refill, the mixing and the event's number, in the order of the work.
+use Rattle.draw_off.proofs.Worked.{event-worked}
+use borrow.Author.Needs.{needs}
+use Rattle.draw_off.proofs.event.draw_event.Statement.{statement}
+use Rattle.draw_off.proofs.event.draw_event.Tie as tie
+
+extract-hot-water-requires : tie.Need-extract-hot-water-requires
+extract-hot-water-requires c κs = search needs
+
+volume-used-requires : tie.Need-volume-used-requires
+volume-used-requires c κs = search needs
+
+calc-temps-after-extraction-requires : tie.Need-calc-temps-after-extraction-requires
+calc-temps-after-extraction-requires c κs = search needs
+
+mix-event-requires : tie.Need-mix-event-requires
+mix-event-requires c κs = search needs
+
+is-event-finite-requires : tie.Need-is-event-finite-requires
+is-event-finite-requires c κs = search needs
+
+number-after-requires : tie.Need-number-after-requires
+number-after-requires c κs = search needs
+
+returns : tie.Need-returns
+returns c =
+    let finite = c .before in
+    let mixing = finite .before .before in
+    let refill = mixing .before .before in
+    let used = refill .before .before .before .before in
+    let draw = used .before .before .before .before in
+    let start = draw .before .before .before .before in
+    let a = start .args in
+    event-worked (a .c) (a .feed) (a .wanted) (a .temps .now) (a .totals) (a .vol .now) (start .pre .2) _ (draw .extract-hot-water .result) _ (draw .extract-hot-water .ensures) (used .volume-used .ensures) _ _ _ (refill .calc-temps-after-extraction .ensures) _ _ _ _ (mixing .mix-event .ensures) (finite .is-event-finite .ensures) (c .number-after .ensures)
+
+pub draw-event-spec : {M : Type 1} → statement M
+draw-event-spec =
+    tie.close
+    (tie.spec
+    extract-hot-water-requires
+    volume-used-requires
+    calc-temps-after-extraction-requires
+    mix-event-requires
+    is-event-finite-requires
+    number-after-requires
+    returns)

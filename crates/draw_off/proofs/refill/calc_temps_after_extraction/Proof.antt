@@ -1,0 +1,174 @@
+-- `refill::calc_temps_after_extraction` meets its contract. The invariants: filling the layers left gives the whole refill; taking from the donors left
+-- gives what all of them give.
+use mathlib.Core.Path.{_≡_, sym, _∙_}
+use mathlib.Core.Bool.{_||_}
+use mathlib.Core.Logic.{⊎-elim}
+use Rattle.numeric.specs.Descent.{Descent, descent-start, descent-turn, descent-stop, descent-end}
+use Rattle.draw_off.specs.Refill.{takeFrom, entersWarmer, refillLayer, refill}
+use Rattle.draw_off.specs.Lent.{fillingWith, refillOf}
+use Rattle.draw_off.proofs.Descents.{lackNone, lacksNone, refill-descends}
+use Rattle.draw_off.proofs.Filled.{lack-told, layer-refilled, mixes-now, mixes-still}
+use borrow.Author.Needs.{needs}
+use Rattle.draw_off.proofs.refill.calc_temps_after_extraction.Statement.{statement}
+use Rattle.draw_off.proofs.refill.calc_temps_after_extraction.Tie as tie
+
+abbrev Inv-donors : tie.InvT-donors
+Inv-donors n vol feed temps held₀ initial mixes i f₀ j₀ held f j = Descent lackNone (takeFrom vol feed initial) j₀ (fillingWith held₀ f₀) j (fillingWith held f)
+
+abbrev μ-donors : tie.MeasureT-donors
+μ-donors n vol feed temps held₀ initial mixes i f₀ j₀ held f j = j
+
+abbrev Inv-filling : tie.InvT-filling
+Inv-filling n vol feed temps₀ held₀ initial mixes₀ i₀ temps held mixes i = Descent (lacksNone vol feed initial) (refillLayer vol feed initial) i₀ (refillOf held₀ temps₀ mixes₀) i (refillOf held temps mixes)
+
+abbrev μ-filling : tie.MeasureT-filling
+μ-filling n vol feed temps₀ held₀ initial mixes₀ i₀ temps held mixes i = i
+
+filling-holds : tie.Need-filling-holds Inv-donors μ-donors Inv-filling μ-filling
+filling-holds c = descent-start _ _ _ _
+
+sub-i : tie.Need-sub-i Inv-donors μ-donors Inv-filling μ-filling
+sub-i c = search needs
+
+mul-start-filling : tie.Need-mul-start-filling Inv-donors μ-donors Inv-filling μ-filling
+mul-start-filling c = search needs
+
+element-copy-out-start-filling :
+    tie.Need-element-copy-out-start-filling Inv-donors μ-donors Inv-filling μ-filling
+element-copy-out-start-filling c = search needs
+
+mul-start-filling-2 : tie.Need-mul-start-filling-2 Inv-donors μ-donors Inv-filling μ-filling
+mul-start-filling-2 c = search needs
+
+element-copy-out-start-filling-2 :
+    tie.Need-element-copy-out-start-filling-2 Inv-donors μ-donors Inv-filling μ-filling
+element-copy-out-start-filling-2 c = search needs
+
+mul-start-filling-3 : tie.Need-mul-start-filling-3 Inv-donors μ-donors Inv-filling μ-filling
+mul-start-filling-3 c = search needs
+
+array-read-start-filling :
+    tie.Need-array-read-start-filling Inv-donors μ-donors Inv-filling μ-filling
+array-read-start-filling c = search needs
+
+start-filling-requires : tie.Need-start-filling-requires Inv-donors μ-donors Inv-filling μ-filling
+start-filling-requires c κs = search needs
+
+is-no-volume-requires : tie.Need-is-no-volume-requires Inv-donors μ-donors Inv-filling μ-filling
+is-no-volume-requires c κs = search needs
+
+donors-holds : tie.Need-donors-holds Inv-donors μ-donors Inv-filling μ-filling
+donors-holds c = descent-start _ _ _ _
+
+sub-j : tie.Need-sub-j Inv-donors μ-donors Inv-filling μ-filling
+sub-j c = search needs
+
+is-no-volume-requires-2 :
+    tie.Need-is-no-volume-requires-2 Inv-donors μ-donors Inv-filling μ-filling
+is-no-volume-requires-2 c κs = search needs
+
+take-from-requires : tie.Need-take-from-requires Inv-donors μ-donors Inv-filling μ-filling
+take-from-requires c κs = search needs
+
+donors-less : tie.Need-donors-less Inv-donors μ-donors Inv-filling μ-filling
+donors-less c = search needs
+
+donors-again : tie.Need-donors-again Inv-donors μ-donors Inv-filling μ-filling
+donors-again c =
+    let none = c .before .before .before in
+    let test = none .before .before in
+    let a = test .before .before .before .before .before .before .before .before .before .before .args in
+    rw (c .take-from .ensures (a .vol .now) (a .feed)) (descent-turn _ _ _ _ _ _ (test .donors-test .taken) (sym (none .before .is-no-volume2 .ensures) ∙ none .if2 .left) (test .before .donors .inv))
+
+does-enter-warmer-requires :
+    tie.Need-does-enter-warmer-requires Inv-donors μ-donors Inv-filling μ-filling
+does-enter-warmer-requires c κs = search needs
+
+take-from-feed-requires :
+    tie.Need-take-from-feed-requires Inv-donors μ-donors Inv-filling μ-filling
+take-from-feed-requires c κs = search needs
+
+mul-temps : tie.Need-mul-temps Inv-donors μ-donors Inv-filling μ-filling
+mul-temps c = search needs
+
+element-write-temps : tie.Need-element-write-temps Inv-donors μ-donors Inv-filling μ-filling
+element-write-temps c = search needs
+
+mul-held : tie.Need-mul-held Inv-donors μ-donors Inv-filling μ-filling
+mul-held c = search needs
+
+element-write-held : tie.Need-element-write-held Inv-donors μ-donors Inv-filling μ-filling
+element-write-held c = search needs
+
+filling-less : tie.Need-filling-less Inv-donors μ-donors Inv-filling μ-filling
+filling-less c = search needs
+
+filling-again : tie.Need-filling-again Inv-donors μ-donors Inv-filling μ-filling
+filling-again c =
+    let fed = c .before in
+    let warm = fed .before .before in
+    let donors = warm .before .before in
+    let none = donors .before in
+    let start = none .before .before in
+    let test = start .before .before .before in
+    let at = test .before in
+    let a = at .before .before .args in
+    let warmer = warm .does-enter-warmer .ensures (a .vol .now) (a .temps .now) (donors .donors .held) in
+    rw
+    (layer-refilled (a .vol .now) (a .feed) (a .temps .now) _ (at .filling .held) (at .filling .temps) (at .filling .mixes) (donors .donors .held) (start .start-filling .result) (donors .donors .f) (fed .take-from-feed .result) _ (start .start-filling .ensures)
+    (⊎-elim
+    (λ w. descent-end _ _ _ _ _ _ (w .0 .left) (donors .donors .inv))
+    (λ w. descent-stop _ _ _ _ _ _ (w .0 .taken) (sym (w .1 .ensures) ∙ w .2 .taken) (donors .donors .inv))
+    (warm .before .donors-test .came))
+    (fed .take-from-feed .ensures _ _ _)
+    (⊎-elim
+    (λ w. mixes-now (at .filling .mixes) _ _ (sym warmer ∙ w .0 .taken) (w .1))
+    (λ w. mixes-still (at .filling .mixes) _ _ (sym warmer ∙ w .0 .left) (w .1))
+    (fed .before .if3 .came)))
+    (descent-turn _ _ _ _ _ _ (test .filling-test .taken) (lack-told _ _ _ (start .start-filling .result) _ _ (start .start-filling .ensures) (none .before .is-no-volume .ensures) (none .if1 .left)) (at .filling .inv))
+
+returns : tie.Need-returns Inv-donors μ-donors Inv-filling μ-filling
+unfolding refill
+returns c = rw refill-descends (descent-end _ _ _ _ _ _ (c .filling-test .left) (c .before .filling .inv))
+
+returns-2 : tie.Need-returns-2 Inv-donors μ-donors Inv-filling μ-filling
+unfolding refill
+returns-2 c =
+    let start = c .before .before in
+    let test = start .before .before .before in
+    rw refill-descends (descent-stop _ _ _ _ _ _ (test .filling-test .taken) (lack-told _ _ _ (start .start-filling .result) _ _ (start .start-filling .ensures) (c .before .is-no-volume .ensures) (c .if1 .taken)) (test .before .filling .inv))
+
+pub calc-temps-after-extraction-spec : {M : Type 1} → statement M
+calc-temps-after-extraction-spec =
+    tie.close
+    (tie.spec
+    Inv-donors
+    μ-donors
+    Inv-filling
+    μ-filling
+    filling-holds
+    sub-i
+    mul-start-filling
+    element-copy-out-start-filling
+    mul-start-filling-2
+    element-copy-out-start-filling-2
+    mul-start-filling-3
+    array-read-start-filling
+    start-filling-requires
+    is-no-volume-requires
+    donors-holds
+    sub-j
+    is-no-volume-requires-2
+    take-from-requires
+    donors-less
+    donors-again
+    does-enter-warmer-requires
+    take-from-feed-requires
+    mul-temps
+    element-write-temps
+    mul-held
+    element-write-held
+    filling-less
+    filling-again
+    returns
+    returns-2)

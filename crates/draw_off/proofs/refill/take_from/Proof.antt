@@ -1,0 +1,26 @@
+-- `refill::take_from` meets its contract: a layer that holds more than zero gives its share, and any other is not met.
+use Rattle.draw_off.specs.Refill.{takeFrom}
+use borrow.Author.Needs.{needs}
+use Rattle.draw_off.proofs.refill.take_from.Statement.{statement}
+use Rattle.draw_off.proofs.refill.take_from.Tie as tie
+
+mul-if1 : tie.Need-mul-if1
+mul-if1 c = search needs
+
+element-copy-out-if1 : tie.Need-element-copy-out-if1
+element-copy-out-if1 c = search needs
+
+take-share-requires : tie.Need-take-share-requires
+take-share-requires c κs = search needs
+
+returns : tie.Need-returns
+unfolding takeFrom
+returns c = λ vol feed. rw (c .before .before .if1 .taken) (c .take-share .ensures vol feed)
+
+returns-2 : tie.Need-returns-2
+unfolding takeFrom
+returns-2 c = λ vol feed. rw (c .if1 .left)
+
+pub take-from-spec : {M : Type 1} → statement M
+take-from-spec =
+    tie.close (tie.spec mul-if1 element-copy-out-if1 take-share-requires returns returns-2)

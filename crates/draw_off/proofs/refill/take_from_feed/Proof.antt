@@ -1,0 +1,21 @@
+-- `refill::take_from_feed` meets its contract: a lack above zero enters at cold(lack).
+use Rattle.draw_off.specs.Refill.{fromFeed}
+use borrow.Author.Needs.{needs}
+use Rattle.draw_off.proofs.refill.take_from_feed.Statement.{statement}
+use Rattle.draw_off.proofs.refill.take_from_feed.Tie as tie
+
+cold-temp-requires : tie.Need-cold-temp-requires
+cold-temp-requires c κs = search needs
+
+returns : tie.Need-returns
+unfolding fromFeed
+returns c =
+    let cool = c .before .before in
+    λ vol before held. rw (cool .before .before .if1 .taken, cool .cold-temp .ensures)
+
+returns-2 : tie.Need-returns-2
+unfolding fromFeed
+returns-2 c = λ vol before held. rw (c .if1 .left)
+
+pub take-from-feed-spec : {M : Type 1} → statement M
+take-from-feed-spec = tie.close (tie.spec cold-temp-requires returns returns-2)

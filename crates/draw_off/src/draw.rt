@@ -1,0 +1,167 @@
+// `extract_hot_water`: what one event takes from the layers, from the top down, and from the feed.
+ghost use mathlib.Core.Path.{_≡_};
+ghost use mathlib.Core.List.{List};
+ghost use Prim.Native.Nat.{_≤_, _<_};
+ghost use lib.Ieee.{Float};
+ghost use Rattle.mixing.specs.Limits.{maxLayers};
+ghost use Rattle.draw_off.specs.Draw.{givesAll, share, restAfter, counted, drawShare, drawLayer, drawLayers, drawFeed, extract, volumeUsed};
+ghost use Rattle.draw_off.specs.Lent.{drawOf};
+use cylinder::Cylinder;
+use mixing::limits::MAX_LAYERS;
+
+// What an event has drawn: the rest wanted, the event's energy, and the weighted sum and the volume drawn of the whole step so far.
+pub struct Drawn {
+    pub rest: f64,
+    pub energy: f64,
+    pub weighted: f64,
+    pub drawn: f64,
+}
+
+// A layer smaller than, or narrow-close to, the rest gives all.
+fn does_give_all(held: f64, rest: f64) -> bool
+    ensures { λ r. ⌜ r ≡ givesAll held rest ⌝ }
+{
+    if held < rest {
+        return true;
+    }
+    numeric::close::is_narrow_close(held, rest)
+}
+
+fn share_of(held: f64, rest: f64) -> f64
+    ensures { λ r. ⌜ r ≡ share held rest ⌝ }
+{
+    if does_give_all(held, rest) { held } else { rest }
+}
+
+fn rest_after(held: f64, rest: f64) -> f64
+    ensures { λ r. ⌜ r ≡ restAfter held rest ⌝ }
+{
+    if does_give_all(held, rest) { rest - held } else { 0.0 }
+}
+
+// The volume v at temperature t counts over water at the temperature `cool`; `rest` is still wanted.
+fn count_share(c: Cylinder, v: f64, t: f64, cool: f64, rest: f64, d: Drawn) -> Drawn
+    ensures { λ r. ⌜ ((held : List Float) → drawOf held r ≡ counted c v t cool held rest (drawOf held d)) ⌝ }
+{
+    Drawn {
+        rest,
+        energy: d.energy + c.rho * c.cp * v * (t - cool),
+        weighted: d.weighted + v * t,
+        drawn: d.drawn + v,
+    }
+}
+
+// The layer i gives its share, over water at cold(event volume).
+fn draw_share(
+    c: Cylinder,
+    feed: f64,
+    temps: &[f64; MAX_LAYERS],
+    wanted: f64,
+    i: usize,
+    held: &mut [f64; MAX_LAYERS],
+    d: Drawn,
+) -> Drawn
+    requires { ⌜ i < maxLayers ⌝ }
+    ensures { λ r. ⌜ drawOf (now (held .exit)) r ≡ drawShare c feed (now (temps .entry)) wanted i (drawOf (now (held .entry)) d) ⌝ }
+{
+    let h = held[i];
+    let t = temps[i];
+    let v = share_of(h, d.rest);
+    let rest = rest_after(h, d.rest);
+    let cool = crate::cold::cold_temp(feed, wanted);
+    held[i] = h - v;
+    count_share(c, v, t, cool, rest, d)
+}
+
+// An emptied layer is skipped.
+fn draw_layer(
+    c: Cylinder,
+    feed: f64,
+    temps: &[f64; MAX_LAYERS],
+    wanted: f64,
+    i: usize,
+    held: &mut [f64; MAX_LAYERS],
+    d: Drawn,
+) -> Drawn
+    requires { ⌜ i < maxLayers ⌝ }
+    ensures { λ r. ⌜ drawOf (now (held .exit)) r ≡ drawLayer c feed (now (temps .entry)) wanted i (drawOf (now (held .entry)) d) ⌝ }
+{
+    if cylinder::is_no_volume(held[i]) {
+        return d;
+    }
+    draw_share(c, feed, temps, wanted, i, held, d)
+}
+
+// From the top down, until the rest wanted is none.
+fn draw_layers(
+    c: Cylinder,
+    feed: f64,
+    temps: &[f64; MAX_LAYERS],
+    wanted: f64,
+    held: &mut [f64; MAX_LAYERS],
+    start: Drawn,
+) -> Drawn
+    requires { ⌜ c .layers ≤ maxLayers ⌝ }
+    ensures { λ r. ⌜ drawOf (now (held .exit)) r ≡ drawLayers c feed (now (temps .entry)) wanted (c .layers) (drawOf (now (held .entry)) start) ⌝ }
+{
+    let mut d = start;
+    let mut i = c.layers;
+    while 0 < i {
+        i -= 1;
+        if cylinder::is_no_volume(d.rest) {
+            return d;
+        }
+        d = draw_layer(c, feed, temps, wanted, i, held, d);
+    }
+    d
+}
+
+// A rest above zero, however small, comes from the feed.
+fn draw_feed(c: Cylinder, feed: f64, d: Drawn) -> Drawn
+    ensures { λ r. ⌜ ((held temps : List Float) (wanted : Float) → drawOf held r ≡ drawFeed c feed temps wanted (drawOf held d)) ⌝ }
+{
+    if d.rest > 0.0 {
+        return count_share(c, d.rest, feed, crate::cold::cold_temp(feed, d.rest), d.rest, d);
+    }
+    d
+}
+
+// The event of the volume `wanted`, from full layers; `held` is left with what each of them still holds.
+pub fn extract_hot_water(
+    c: Cylinder,
+    vol: &[f64; MAX_LAYERS],
+    feed: f64,
+    temps: &[f64; MAX_LAYERS],
+    wanted: f64,
+    weighted: f64,
+    drawn: f64,
+    held: &mut [f64; MAX_LAYERS],
+) -> Drawn
+    requires { ⌜ c .layers ≤ maxLayers ⌝ }
+    ensures { λ r. ⌜ drawOf (now (held .exit)) r ≡ extract c (now (vol .entry)) feed (now (temps .entry)) wanted weighted drawn ⌝ }
+{
+    *held = *vol;
+    let start = Drawn {
+        rest: wanted,
+        energy: 0.0,
+        weighted,
+        drawn,
+    };
+    let d = draw_layers(c, feed, temps, wanted, held, start);
+    draw_feed(c, feed, d)
+}
+
+// The tank's volume less Sum2 of what the layers still hold.
+pub fn volume_used(c: Cylinder, held: &[f64; MAX_LAYERS]) -> f64
+    requires { ⌜ c .layers ≤ maxLayers ⌝ }
+    ensures { λ r. ⌜ r ≡ volumeUsed c (now (held .entry)) ⌝ }
+{
+    let n = c.layers;
+    let mut a = numeric::sum2::start();
+    let mut k = 0;
+    while k < n {
+        a = numeric::sum2::add_term(a, held[k]);
+        k += 1;
+    }
+    c.volume - numeric::sum2::total_of(a)
+}

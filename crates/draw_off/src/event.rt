@@ -1,0 +1,137 @@
+// One draw event as a whole, and the events of a step in a row.
+ghost use mathlib.Core.Path.{_≡_};
+ghost use mathlib.Core.Bool.{true};
+ghost use Prim.Native.Nat.{ℕ, _≤_};
+ghost use lib.Ieee.{nan};
+ghost use lib.ListN.{getD};
+ghost use Rattle.numeric.specs.Tabulate.{tabulate};
+ghost use Rattle.mixing.specs.Limits.{maxLayers};
+ghost use Rattle.mixing.specs.Mix.{numberOf};
+ghost use Rattle.cylinder.specs.Layers.{layerVolumes};
+ghost use Rattle.draw_off.specs.Event.{EventMixing, eventMixing, mixedTemps, numberAfter, eventFinite, eventOf, drawAll};
+ghost use Rattle.draw_off.specs.Lent.{maxEvents, drawingOf, drawingAfter};
+use crate::Totals;
+use cylinder::Cylinder;
+use mixing::MixAnswer;
+use mixing::limits::MAX_LAYERS;
+
+// The most draw events that a step has.
+pub const MAX_EVENTS: usize = 64;
+
+// What an event, or a row of them, answers: the number of 01's refusal, 0 where there is none, and what the step has drawn so far.
+pub struct EventAnswer {
+    pub number: u8,
+    pub totals: Totals,
+}
+
+fn number_of(a: MixAnswer) -> u8
+    ensures { λ r. ⌜ r ≡ numberOf a ⌝ }
+{
+    match a {
+        MixAnswer::Mixed(_) => 0,
+        MixAnswer::Refused(number) => number,
+    }
+}
+
+// The mixing in which the event ends, if it does; the answer is 9 where that is refused, and else 0.
+fn mix_event(
+    mixes: bool,
+    c: Cylinder,
+    vol: &[f64; MAX_LAYERS],
+    temps: &mut [f64; MAX_LAYERS],
+) -> u8
+    requires { ⌜ (1 ≤ c .layers) × (c .layers ≤ maxLayers) × (now vol ≡ layerVolumes c) ⌝ }
+    ensures { λ r. ⌜ (r ≡ numberAfter (eventMixing mixes c (now (temps .entry))) true) × (now (temps .exit) ≡ mixedTemps (now (temps .entry)) (eventMixing mixes c (now (temps .entry)))) ⌝ }
+{
+    if mixes {
+        let n = c.layers;
+        return number_of(mixing::rearrange::rearrange_temperatures(n, vol, temps));
+    }
+    0
+}
+
+// The layers, and energy and volume used so far.
+fn is_event_finite(c: Cylinder, temps: &[f64; MAX_LAYERS], t: Totals) -> bool
+    requires { ⌜ c .layers ≤ maxLayers ⌝ }
+    ensures { λ r. ⌜ r ≡ eventFinite c (now (temps .entry)) t ⌝ }
+{
+    let n = c.layers;
+    if !cylinder::are_finite(n, temps) {
+        return false;
+    }
+    if !numeric::compare::is_finite(t.energy) {
+        return false;
+    }
+    numeric::compare::is_finite(t.used)
+}
+
+// 9 for a mixing out of order comes before 10 for what is not finite.
+fn number_after(number: u8, finite: bool) -> u8
+    ensures { λ r. ⌜ ((m : EventMixing) → number ≡ numberAfter m true → r ≡ numberAfter m finite) ⌝ }
+{
+    if number != 0 {
+        return number;
+    }
+    if finite { 0 } else { 10 }
+}
+
+// The draw, the refill and the mixing that a warm feed asks for. An event's energy and volume used are added to the step's when it ends.
+pub fn draw_event(
+    c: Cylinder,
+    vol: &[f64; MAX_LAYERS],
+    feed: f64,
+    wanted: f64,
+    temps: &mut [f64; MAX_LAYERS],
+    totals: Totals,
+) -> EventAnswer
+    requires { ⌜ (1 ≤ c .layers) × (c .layers ≤ maxLayers) × (now vol ≡ layerVolumes c) ⌝ }
+    ensures { λ r. ⌜ drawingOf (now (temps .exit)) r ≡ drawingAfter c (eventOf c feed wanted (now (temps .entry)) totals) totals ⌝ }
+{
+    let n = c.layers;
+    let mut held = *vol;
+    let d = crate::draw::extract_hot_water(
+        c, vol, feed, temps, wanted, totals.weighted, totals.drawn, &mut held,
+    );
+    let after = Totals {
+        energy: totals.energy + d.energy,
+        used: totals.used + crate::draw::volume_used(c, &held),
+        weighted: d.weighted,
+        drawn: d.drawn,
+    };
+    let mixes = crate::refill::calc_temps_after_extraction(n, vol, feed, temps, &mut held);
+    let number = mix_event(mixes, c, vol, temps);
+    EventAnswer {
+        number: number_after(number, is_event_finite(c, temps, after)),
+        totals: after,
+    }
+}
+
+// The first n of the volumes, one event after the other; a refused event ends them.
+pub fn draw_events(
+    c: Cylinder,
+    vol: &[f64; MAX_LAYERS],
+    feed: f64,
+    n: usize,
+    volumes: &[f64; MAX_EVENTS],
+    temps: &mut [f64; MAX_LAYERS],
+    totals: Totals,
+) -> EventAnswer
+    requires { ⌜ (1 ≤ c .layers) × (c .layers ≤ maxLayers) × (now vol ≡ layerVolumes c) × (n ≤ maxEvents) ⌝ }
+    ensures { λ r. ⌜ drawingOf (now (temps .exit)) r ≡ drawAll c feed (tabulate (λ (i : ℕ). getD (now (volumes .entry)) i nan) n 0) 0 (now (temps .entry)) totals ⌝ }
+{
+    let mut t = totals;
+    let mut k = 0;
+    while k < n {
+        let a = draw_event(c, vol, feed, volumes[k], temps, t);
+        if a.number != 0 {
+            return a;
+        }
+        let next = a.totals;
+        t = next;
+        k += 1;
+    }
+    EventAnswer {
+        number: 0,
+        totals: t,
+    }
+}
