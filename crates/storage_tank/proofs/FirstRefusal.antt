@@ -16,7 +16,8 @@ use Rattle.storage_tank.specs.declared.Heater.{Heater}
 use Rattle.storage_tank.specs.declared.TankDesign.{TankDesign}
 use Rattle.storage_tank.specs.declared.StorageTank.{StorageTank}
 use Rattle.storage_tank.specs.declared.Step.{Step}
-use Rattle.storage_tank.specs.Limits.{maxHeaters, maxEvents}
+use Rattle.draw_off.specs.Lent.{maxEvents}
+use Rattle.working_order.specs.Order.{maxHeaters}
 use Rattle.storage_tank.specs.Fixed.{placed, noHeater, notPlaced, placedHeaters, fixedOf, fixedIn, stateIn}
 use Rattle.storage_tank.specs.Checks.{unless, firstRefusal, fairHeater, layersCheck, numbersCheck, temperaturesCheck, tankChecks, stepChecks, feedCheck, pointsCheck, makeRefusal, stepRefusal}
 use Rattle.storage_tank.proofs.Members.{length-tabulate, at-tabulate}

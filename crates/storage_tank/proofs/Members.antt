@@ -12,7 +12,7 @@ use lib.Arith.{lt-of-le-ne}
 use lib.Dec.{T}
 use lib.ListN.{length, getD}
 use Rattle.numeric.specs.Tabulate.{tabulate}
-use Rattle.storage_tank.specs.Order.{indices}
+use Rattle.working_order.specs.Order.{indices}
 use Rattle.storage_tank.specs.Members.{All, Some, Distinct}
 
 -- some member passes the test

@@ -11,7 +11,8 @@ use lib.Ieee.{le}
 use Rattle.numeric.specs.Tabulate.{tabulate}
 use Rattle.storage_tank.specs.declared.TankDesign.{TankDesign}
 use Rattle.storage_tank.specs.Fixed.{Placed, Fixed, placed, noHeater, notPlaced, placedHeaters, heaterOf, fixedOf}
-use Rattle.storage_tank.specs.Order.{indices, comesBefore, insert, insertionSort, workingOrder}
+use Rattle.working_order.specs.Order.{indices, insert, insertionSort}
+use Rattle.storage_tank.specs.Order.{comesBefore, workingOrder}
 use Rattle.storage_tank.specs.Members.{All, Some, Distinct, ChainFrom, Chain}
 use Rattle.storage_tank.specs.Course.{positionOf, WorkedBefore, InWorkingOrder}
 use Rattle.storage_tank.proofs.Members.{by-cond, In, length-tabulate, at-tabulate, numbers-above, numbers-distinct, indices-below, in-indices}

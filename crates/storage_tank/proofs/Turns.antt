@@ -14,12 +14,13 @@ use Rattle.heating.specs.declared.SetPoints.{SetPoints}
 use Rattle.heating.specs.Switch.{switchOn, switchOff}
 use Rattle.heating.specs.Heat.{offer, heated}
 use Rattle.heating.specs.Losses.{surplus}
-use Rattle.heating.specs.Turn.{Immersion, Turned, input, heatAndMix, adjustedInput, afterMixing, turn, turnFinite, turnNumber}
+use Rattle.heating.specs.declared.turn.Immersion.{Immersion}
+use Rattle.heating.specs.Turn.{Turned, input, heatAndMix, adjustedInput, afterMixing, turn, turnFinite, turnNumber}
 use Rattle.heating.specs.SwitchLaws.{latched, switches-latch}
 use Rattle.heating.specs.SupplyLaws.{supply-at-most, supply-off}
 use Rattle.storage_tank.specs.declared.TankDesign.{TankDesign}
 use Rattle.storage_tank.specs.declared.Step.{Step}
-use Rattle.storage_tank.specs.Limits.{maxHeaters}
+use Rattle.working_order.specs.Order.{maxHeaters}
 use Rattle.storage_tank.specs.Fixed.{Placed, heaterOf, immersionOf, fixedOf}
 use Rattle.storage_tank.specs.Checks.{isPositive, notNegative, pointsOf}
 use Rattle.storage_tank.specs.Work.{Progress, Turn, End, refused, done, endBy, turnOf, lineOf, afterTurn, heaterTurn}

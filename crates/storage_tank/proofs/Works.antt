@@ -19,7 +19,7 @@ use Rattle.draw_off.specs.Event as Event
 use Rattle.draw_off.specs.Event.{Event, EventMixing, unmixed, mixed, eventMixing, eventOf, eventNumber}
 use Rattle.storage_tank.specs.declared.TankDesign.{TankDesign}
 use Rattle.storage_tank.specs.declared.Step.{Step}
-use Rattle.storage_tank.specs.Limits.{maxHeaters}
+use Rattle.working_order.specs.Order.{maxHeaters}
 use Rattle.storage_tank.specs.Fixed.{Placed, Fixed, State, placed, heaterOf, fixedOf}
 use Rattle.storage_tank.specs.Order.{workingOrder}
 use Rattle.storage_tank.specs.Checks.{firstRefusal, unless, isPositive, notNegative, isPosition, fairHeater, tankChecks, stepChecks, makeRefusal, stepRefusal}

@@ -15,7 +15,7 @@ use Rattle.storage_tank.specs.declared.Step.{Step}
 use Rattle.storage_tank.specs.declared.Report.{Report}
 use Rattle.storage_tank.specs.declared.Made.{Made}
 use Rattle.storage_tank.specs.declared.Stepped.{Stepped}
-use Rattle.storage_tank.specs.Limits.{maxHeaters}
+use Rattle.working_order.specs.Order.{maxHeaters}
 use Rattle.storage_tank.specs.Fixed.{noHeater, fixedOf, fixedIn, stateIn}
 use Rattle.storage_tank.specs.Checks.{makeRefusal}
 use Rattle.storage_tank.specs.Work.{Progress, End, refused, done, recoverable, work}

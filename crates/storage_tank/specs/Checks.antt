@@ -15,7 +15,8 @@ use Rattle.heating.specs.declared.SetPoints.{SetPoints}
 use Rattle.heating.specs.declared.SetPoints.the-variants.{Neither, Lower, Upper, Both}
 use Rattle.storage_tank.specs.declared.Setting.{Setting}
 use Rattle.storage_tank.specs.declared.Step.{Step}
-use Rattle.storage_tank.specs.Limits.{maxHeaters, maxEvents}
+use Rattle.draw_off.specs.Lent.{maxEvents}
+use Rattle.working_order.specs.Order.{maxHeaters}
 use Rattle.storage_tank.specs.Fixed.{Placed, Fixed, State, heaterOf}
 
 -- n, and 0 where the check passes

@@ -8,7 +8,7 @@ use Rattle.numeric.specs.Double.{zero-f}
 use Rattle.mixing.specs.Limits.{maxLayers}
 use Rattle.storage_tank.specs.declared.TankDesign.{TankDesign}
 use Rattle.storage_tank.specs.declared.Step.{Step}
-use Rattle.storage_tank.specs.Limits.{maxHeaters}
+use Rattle.working_order.specs.Order.{maxHeaters}
 use Rattle.storage_tank.specs.Fixed.{State, fixedOf}
 use Rattle.storage_tank.specs.Checks.{makeRefusal}
 use Rattle.storage_tank.specs.Work.{End, refused, done, Work, stop, work}

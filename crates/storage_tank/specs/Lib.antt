@@ -1,4 +1,3 @@
-pub mod Limits
 pub mod Fixed
 pub mod Order
 pub mod Checks

@@ -18,7 +18,7 @@ use Rattle.heating.specs.declared.SetPoints.{SetPoints}
 use Rattle.heating.specs.Turn.{Turned, turn, turnNumber}
 use Rattle.storage_tank.specs.declared.HeaterLine.{HeaterLine}
 use Rattle.storage_tank.specs.declared.Step.{Step}
-use Rattle.storage_tank.specs.Limits.{maxHeaters}
+use Rattle.working_order.specs.Order.{maxHeaters}
 use Rattle.storage_tank.specs.Fixed.{Fixed, State, immersionOf}
 use Rattle.storage_tank.specs.Order.{workingOrder}
 use Rattle.storage_tank.specs.Checks.{pointsOf, stepRefusal}

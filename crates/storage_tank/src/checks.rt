@@ -6,14 +6,17 @@ ghost use lib.ListN.{getD};
 ghost use lib.Ieee.{nan};
 ghost use Rattle.numeric.specs.Holds.{holds};
 ghost use Rattle.mixing.specs.Limits.{maxLayers};
-ghost use Rattle.storage_tank.specs.Limits.{maxHeaters, maxEvents};
+ghost use Rattle.draw_off.specs.Lent.{maxEvents};
+ghost use Rattle.working_order.specs.Order.{maxHeaters};
 ghost use Rattle.storage_tank.specs.Fixed.{placed, noHeater};
 ghost use Rattle.storage_tank.specs.Checks.{isPositive, notNegative, isPosition, fairHeater, fairPoints, layersCheck, numbersCheck, noSetting};
 
 use crate::Heater;
 use crate::Setting;
 use cylinder::Cylinder;
+use draw_off::event::MAX_EVENTS;
 use heating::SetPoints;
+use working_order::MAX_HEATERS;
 
 // Finite and not below zero: -0.0 is a number like 0.0.
 pub fn is_not_negative(x: f64) -> bool
@@ -49,7 +52,7 @@ pub fn is_fair_heater(h: Heater) -> bool
 }
 
 // 5, of the first n heaters.
-pub fn are_fair_heaters(n: usize, fitted: [Heater; 8]) -> bool
+pub fn are_fair_heaters(n: usize, fitted: [Heater; MAX_HEATERS]) -> bool
     requires { ⌜ n ≤ maxHeaters ⌝ }
     ensures { λ r. ⌜ r ≡ holds (λ (h : ℕ). fairHeater (placed (getD fitted h noHeater))) n 0 ⌝ }
 {
@@ -65,7 +68,7 @@ pub fn are_fair_heaters(n: usize, fitted: [Heater; 8]) -> bool
 }
 
 // 7, of the first n volumes.
-pub fn are_fair_volumes(n: usize, volumes: &[f64; 64]) -> bool
+pub fn are_fair_volumes(n: usize, volumes: &[f64; MAX_EVENTS]) -> bool
     requires { ⌜ n ≤ maxEvents ⌝ }
     ensures { λ r. ⌜ r ≡ holds (λ (i : ℕ). notNegative (getD (now (volumes .entry)) i nan)) n 0 ⌝ }
 {
@@ -101,7 +104,7 @@ fn are_fair_both(l: f64, u: f64) -> bool
 }
 
 // 8, of the first n settings.
-pub fn are_fair_settings(n: usize, settings: [Setting; 8]) -> bool
+pub fn are_fair_settings(n: usize, settings: [Setting; MAX_HEATERS]) -> bool
     requires { ⌜ n ≤ maxHeaters ⌝ }
     ensures { λ r. ⌜ r ≡ holds (λ (h : ℕ). fairPoints (getD settings h noSetting .points)) n 0 ⌝ }
 {

@@ -2,12 +2,10 @@
 pub mod checks;
 pub mod refusals;
 
+use draw_off::event::MAX_EVENTS;
 use heating::SetPoints;
-
-// The most heaters that a tank has, and the most draw events that a step has.
-pub const MAX_HEATERS: usize = 8;
-
-pub const MAX_EVENTS: usize = 64;
+use mixing::limits::MAX_LAYERS;
+use working_order::MAX_HEATERS;
 
 // An immersion heater: its rated power (kW), its position, 0 at the bottom of the tank and 1 at its top, and its thermostat's, where it has one of its own.
 pub struct Heater {
@@ -29,7 +27,7 @@ pub struct TankDesign {
     pub ambient: f64,
     pub timestep: f64,
     pub heaters: usize,
-    pub fitted: [Heater; 8],
+    pub fitted: [Heater; MAX_HEATERS],
 }
 
 // The tank: its fixed numbers, its layers' temperatures, the bottom first, its heaters as given, and their flags.
@@ -41,10 +39,10 @@ pub struct StorageTank {
     pub cp: f64,
     pub ambient: f64,
     pub timestep: f64,
-    pub temps: [f64; 32],
+    pub temps: [f64; MAX_LAYERS],
     pub heaters: usize,
-    pub fitted: [Heater; 8],
-    pub flags: [bool; 8],
+    pub fitted: [Heater; MAX_HEATERS],
+    pub flags: [bool; MAX_HEATERS],
 }
 
 // A step's set points for one heater.
@@ -56,9 +54,9 @@ pub struct Setting {
 pub struct Step {
     pub feed: f64,
     pub events: usize,
-    pub volumes: [f64; 64],
+    pub volumes: [f64; MAX_EVENTS],
     pub entries: usize,
-    pub settings: [Setting; 8],
+    pub settings: [Setting; MAX_HEATERS],
 }
 
 // What a step reports of a heater: its flag, its adjusted input, energy supplied and losses (kWh), and the rounds of its mixing.
@@ -76,7 +74,7 @@ pub struct Report {
     pub used: f64,
     pub average: f64,
     pub recoverable: f64,
-    pub lines: [HeaterLine; 8],
+    pub lines: [HeaterLine; MAX_HEATERS],
 }
 
 // What make answers: 0 and the tank, or the number of 01's refusal and a tank of no layers, no heaters and zeros.

@@ -6,7 +6,8 @@ ghost use Prim.Native.Nat.{ℕ, _≤_};
 ghost use lib.Dec.{leb, eqb};
 ghost use lib.ListN.{getD};
 ghost use Rattle.numeric.specs.Holds.{holds};
-ghost use Rattle.storage_tank.specs.Limits.{maxHeaters, maxEvents};
+ghost use Rattle.draw_off.specs.Lent.{maxEvents};
+ghost use Rattle.working_order.specs.Order.{maxHeaters};
 ghost use Rattle.storage_tank.specs.Fixed.{placed, noHeater, fixedOf, fixedIn, stateIn};
 ghost use Rattle.storage_tank.specs.Checks.{unless, firstRefusal, fairHeater, layersCheck, numbersCheck, temperaturesCheck, feedCheck, pointsCheck, makeRefusal, stepRefusal};
 
@@ -15,6 +16,9 @@ use crate::Step;
 use crate::StorageTank;
 use crate::TankDesign;
 use cylinder::Cylinder;
+use draw_off::event::MAX_EVENTS;
+use mixing::limits::MAX_LAYERS;
+use working_order::MAX_HEATERS;
 
 pub fn cylinder_of(m: TankDesign) -> Cylinder
     ensures { λ r. ⌜ r ≡ fixedOf m .cylinder ⌝ }
@@ -51,17 +55,17 @@ fn first_checks(c: Cylinder, heaters: usize) -> u8
     if c.layers < 1 {
         return 1;
     }
-    if c.layers > 32 {
+    if c.layers > MAX_LAYERS {
         return 1;
     }
-    if heaters > 8 {
+    if heaters > MAX_HEATERS {
         return 2;
     }
     crate::checks::numbers_check(c)
 }
 
 // 4 and 5, where the initial temperature, or each stored layer, is finite or not.
-fn last_checks(c: Cylinder, heaters: usize, fitted: [Heater; 8], temps: bool) -> u8
+fn last_checks(c: Cylinder, heaters: usize, fitted: [Heater; MAX_HEATERS], temps: bool) -> u8
     requires { ⌜ heaters ≤ maxHeaters ⌝ }
     ensures { λ r. ⌜ r ≡ firstRefusal (temperaturesCheck c temps ∷ unless (holds (λ (h : ℕ). fairHeater (placed (getD fitted h noHeater))) heaters 0) 5 ∷ []) ⌝ }
 {
@@ -85,7 +89,7 @@ fn step_checks(heaters: usize, a: Step) -> u8
     requires { ⌜ heaters ≤ maxHeaters ⌝ }
     ensures { λ r. ⌜ r ≡ firstRefusal (unless (leb (a .events) maxEvents && eqb (a .entries) heaters) 6 ∷ feedCheck a ∷ pointsCheck a ∷ []) ⌝ }
 {
-    if a.events > 64 {
+    if a.events > MAX_EVENTS {
         return 6;
     }
     if a.entries != heaters {
