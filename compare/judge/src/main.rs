@@ -1,7 +1,10 @@
+mod against;
+mod candidate;
 mod job;
 mod oracle;
 mod rng;
 mod shapes;
+mod words;
 
 use std::io::{Read, Write};
 
@@ -9,33 +12,35 @@ fn main() {
     original::probe::quiet_panics();
     let args: Vec<String> = std::env::args().skip(1).collect();
     let words: Vec<&str> = args.iter().map(|s| s.as_str()).collect();
-    match words[..] {
+    let number = |word: &str| -> u64 { word.parse().unwrap_or_else(|_| panic!("{word} is no number")) };
+    let fine = match words[..] {
         ["answer"] => {
             let mut bytes = Vec::new();
             std::io::stdin().read_to_end(&mut bytes).unwrap();
-            for line in oracle::answer(&bytes, false, false) {
-                println!("{}", line.text);
-            }
+            print!("{}", words::text(&oracle::answer(&bytes, false, false)));
+            true
         }
         ["make", shape, seed] => {
-            let bytes = shapes::job(shape, seed.parse().unwrap());
+            let bytes = shapes::job(shape, number(seed));
             std::io::stdout().write_all(&bytes).unwrap();
+            true
         }
-        ["speed", count] => {
-            for shape in shapes::JOB_SHAPES.iter().chain(&[shapes::LONG, shapes::PUT]) {
-                let n: u64 = count.parse().unwrap();
-                let n = if *shape == "long" { n / 50 + 1 } else { n };
-                let start = std::time::Instant::now();
-                let (mut lines, mut refused, mut failed) = (0, 0, 0);
-                for seed in 0..n {
-                    let answer = oracle::answer(&shapes::job(shape, seed), *shape == "put", false);
-                    lines += answer.len();
-                    refused += answer.iter().filter(|l| l.by_01 && !l.text.starts_with('L')).count();
-                    failed += answer.iter().filter(|l| l.text.contains("no ")).count();
-                }
-                println!("{shape:12} {n} jobs {lines} lines {refused} refusals {failed} without answer {:.0} jobs/s", n as f64 / start.elapsed().as_secs_f64());
-            }
+        ["show", shape, seed] => {
+            print!("{}", against::tell(shape, number(seed)));
+            true
         }
-        _ => eprintln!("?"),
-    }
+        ["against", "server", shape, from, count, ref command @ ..] => {
+            let mut server = candidate::Server::new(command);
+            against::run(&mut server, shape, number(from), number(count))
+        }
+        ["against", "program", shape, from, count, ref command @ ..] => {
+            let mut program = candidate::Program::new(command);
+            against::run(&mut program, shape, number(from), number(count))
+        }
+        _ => {
+            eprintln!("?");
+            false
+        }
+    };
+    std::process::exit(if fine { 0 } else { 1 });
 }
