@@ -286,7 +286,8 @@ def turn(tank, heater, flag, begin, set_points, charged):
     heat_capacity = tank.density * tank.specific_heat * tank.layer_volume
     offers = [0.0] * count
     if flag:
-        offers[heater_layer] = heater.rated * tank.step_length
+        # Added to 0, as the Rust does: a rated power of -0.0 offers 0.0.
+        offers[heater_layer] = 0.0 + heater.rated * tank.step_length
     heated = [begin[i] + div(offers[i], heat_capacity) for i in range(count)]
     mixed, rounds = mix([tank.layer_volume] * count, heated)
 

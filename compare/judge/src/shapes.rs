@@ -7,7 +7,7 @@ use original::probe::{Heater, Making, SetPoints};
 /// The shapes of jobs. `long` is apart: its jobs pass 65,536 bytes.
 pub const JOB_SHAPES: &[&str] = &[
     "day", "full", "edges", "special", "bits", "exact", "hot-feed", "near", "overflow", "damaged", "tiny",
-    "hysteresis",
+    "hysteresis", "zeros", "range",
 ];
 
 pub const LONG: &str = "long";
@@ -509,6 +509,120 @@ fn hysteresis(rng: &mut Rng, writer: &mut Writer) {
     }
 }
 
+/// Zeros of either sign, and the smallest numbers, wherever a number may stand.
+fn zeros(rng: &mut Rng, writer: &mut Writer) {
+    let any = [0.0, -0.0, 0.0, -0.0, 5e-324, -5e-324, 1.0, -1.0];
+    let not_below = [0.0, -0.0, 0.0, -0.0, 5e-324, 1.0, 16.0];
+    let layers = rng.from_to(1, 4) as usize;
+    let heaters = rng.from_to(0, 3) as usize;
+    let tank = Making {
+        layers,
+        volume: *rng.pick(&[16.0, 48.0, 1.0, 5e-324]),
+        standby: *rng.pick(&not_below),
+        initial: *rng.pick(&any),
+        density: *rng.pick(&[1.0, 1.0, 5e-324]),
+        specific_heat: *rng.pick(&[1.0, 1.0, 0.5, 5e-324]),
+        ambient: *rng.pick(&any),
+        step: *rng.pick(&[1.0, 1.0, 5e-324]),
+    };
+    writer.tank(&tank);
+    let each = tank.volume / layers as f64;
+    for _ in 0..heaters {
+        let heater = Heater {
+            rated: *rng.pick(&not_below),
+            position: *rng.pick(&[0.0, -0.0, 0.5, 0.75]),
+            thermostat: *rng.pick(&[None, Some(0.0), Some(-0.0), Some(0.5)]),
+        };
+        writer.heater(&heater, 0.0);
+    }
+    for _ in 0..rng.from_to(1, 5) {
+        let feed = *rng.pick(&any);
+        let volumes = (0..rng.below(4))
+            .map(|_| *rng.pick(&[0.0, -0.0, 5e-324, each, 0.5 * each, 2.5 * each, tank.volume]))
+            .collect();
+        let set_points = (0..heaters)
+            .map(|_| {
+                let a = *rng.pick(&any);
+                let b = *rng.pick(&any);
+                match rng.below(6) {
+                    0 => (None, None),
+                    1 => (None, Some(b)),
+                    _ if a > b => (Some(b), Some(a)),
+                    _ => (Some(a), Some(b)),
+                }
+            })
+            .collect();
+        let step = Step {
+            feed,
+            volumes,
+            set_points,
+        };
+        writer.step(&step, 0.0);
+    }
+}
+
+/// Sizes from one end of the doubles to the other, where the grouping of a product shows.
+fn range(rng: &mut Rng, writer: &mut Writer) {
+    let wide = *rng.pick(&[20.0, 100.0, 200.0, 300.0]);
+    let size = |rng: &mut Rng| {
+        if rng.one_in(3) {
+            rng.between(0.5, 80.0)
+        } else {
+            10f64.powf(rng.between(-wide, wide))
+        }
+    };
+    let signed = |rng: &mut Rng| {
+        let x = size(rng);
+        if rng.one_in(4) {
+            -x
+        } else {
+            x
+        }
+    };
+    let layers = rng.from_to(1, 4) as usize;
+    let heaters = rng.from_to(0, 3) as usize;
+    let tank = Making {
+        layers,
+        volume: size(rng),
+        standby: if rng.one_in(3) { 0.0 } else { size(rng) },
+        initial: signed(rng),
+        density: size(rng),
+        specific_heat: size(rng),
+        ambient: signed(rng),
+        step: size(rng),
+    };
+    writer.tank(&tank);
+    for _ in 0..heaters {
+        let mut heater = day_heater(rng);
+        heater.rated = size(rng);
+        writer.heater(&heater, 0.0);
+    }
+    for _ in 0..rng.from_to(1, 3) {
+        let feed = signed(rng);
+        let volumes = (0..rng.below(3))
+            .map(|_| if rng.one_in(2) { size(rng) } else { tank.volume * rng.between(0.0, 1.5) })
+            .map(|volume| volume.min(f64::MAX))
+            .collect();
+        let set_points = (0..heaters)
+            .map(|_| {
+                let a = if rng.one_in(2) { tank.initial } else { signed(rng) };
+                let b = signed(rng);
+                if a > b {
+                    (Some(b), Some(a))
+                } else {
+                    (Some(a), Some(b))
+                }
+            })
+            .collect();
+        let step = Step {
+            feed,
+            volumes,
+            set_points,
+        };
+        writer.step(&step, 0.0);
+    }
+}
+
 fn starts(bytes: &[u8]) -> Vec<usize> {
     let mut all = Vec::new();
     let mut at = 0;
@@ -655,6 +769,8 @@ pub fn job(shape: &str, seed: u64) -> Vec<u8> {
         "damaged" => damaged(rng, &mut writer),
         "tiny" => tiny(rng, &mut writer),
         "hysteresis" => hysteresis(rng, &mut writer),
+        "zeros" => zeros(rng, &mut writer),
+        "range" => range(rng, &mut writer),
         "long" => long(rng, &mut writer),
         "put" => put(rng, &mut writer),
         _ => panic!("unknown shape {shape}"),

@@ -1,0 +1,153 @@
+#!/usr/bin/env python3
+"""Shows that random jobs tell a slightly wrong model from the Rust.
+
+    mutants.py JUDGE [SEEDS]
+
+Each line below changes one place of model.py. The changed model is held against the judge, shape by shape,
+until an answer differs. A change that no seed shows is printed as such: either it can't be seen, and its note
+says why, or the shapes are too narrow.
+"""
+
+import os
+import subprocess
+import sys
+import tempfile
+
+HERE = os.path.dirname(os.path.abspath(__file__))
+
+# name, old text, new text
+MUTANTS = [
+    ("offer not added to 0", "0.0 + heater.rated * tank.step_length", "heater.rated * tank.step_length"),
+    ("energy grouped from the right", "tank.density * tank.specific_heat * share * (layers[i] - cold(feed, wanted))",
+     "tank.density * (tank.specific_heat * (share * (layers[i] - cold(feed, wanted))))"),
+    ("share's energy by the feed", "(layers[i] - cold(feed, wanted))", "(layers[i] - feed)"),
+    ("share's energy by cold of the share", "(layers[i] - cold(feed, wanted))", "(layers[i] - cold(feed, share))"),
+    ("rest's energy is nothing", "rest * (feed - cold(feed, rest))", "rest * 0.0"),
+    ("rest's energy by cold of the event", "(feed - cold(feed, rest))", "(feed - cold(feed, wanted))"),
+    ("rest only if not wide-close to 0", "if rest > 0.0:", "if rest > 0.0 and not wide(rest, 0.0):"),
+    ("rest not counted in the volume drawn", "totals.drawn += rest", "pass"),
+    ("cold's sums folded: feed x v / v", "div(sum2([feed * v]), sum2([v]))", "div(feed * v, v)"),
+    ("a layer gives all only if smaller", "if holds[i] < rest or narrow(holds[i], rest):", "if holds[i] < rest:"),
+    ("a layer gives all if wide-close", "narrow(holds[i], rest)", "wide(holds[i], rest)"),
+    ("emptied layers give", "        if empty(holds[i]):\n            continue\n", ""),
+    ("draw stops only at or below 0", "        if empty(rest):\n            break", "        if rest <= 0.0:\n            break"),
+    ("volume used is the volume wanted", "tank.volume - sum2(holds)", "wanted"),
+    ("volume used by a plain sum", "tank.volume - sum2(holds)", "tank.volume - sum(holds)"),
+    ("energy runs through all events", "        energy += event_energy", "        for part in [event_energy]:\n            energy = energy + part + 0.0"),
+    ("the lack closes only at or below 0, outer", "        if empty(lack):\n            break\n        heat", "        if lack <= 0.0:\n            break\n        heat"),
+    ("the lack closes only at or below 0, inner", "            lack -= given\n            if empty(lack):", "            lack -= given\n            if lack <= 0.0:"),
+    ("no feed for a lack wide-close to 0", "        if lack > 0.0:\n            entering", "        if lack > 0.0 and not wide(lack, 0.0):\n            entering"),
+    ("entering at the feed", "entering = cold(feed, lack)", "entering = feed"),
+    ("coldest without the layer's own", "coldest = layers[i]", "coldest = layers[i] if holds[i] > 0.0 else INF"),
+    ("entering compared with the own layer only", "if layers[j] < coldest:", "if False:"),
+    ("entering at least as warm", "if entering > coldest:", "if entering >= coldest:"),
+    ("mixing only if the feed is warmer", "if entering > coldest:", "if feed > coldest:"),
+    ("donors' new temperatures", "heat += given * layers[j]", "heat += given * filled[j]"),
+    ("refill's heat from the feed first", "heat = holds[i] * layers[i]\n", "heat = 0.0 + holds[i] * layers[i]\n"),
+    ("filled layer not marked full", "        holds[i] = total\n", ""),
+    ("no mixing after an event", "        if mixing:", "        if False:"),
+    ("mix strict inversions only", "layers[i] > layers[i + 1] or narrow(layers[i], layers[i + 1])", "layers[i] > layers[i + 1]"),
+    ("mix wide-close pairs", "narrow(layers[i], layers[i + 1])", "wide(layers[i], layers[i + 1])"),
+    ("mean of members only", "sum2(volumes[k] * layers[k] * group[k] for k in range(count))", "sum2(volumes[k] * layers[k] for k in range(count) if group[k])"),
+    ("mean grouped from the right", "volumes[k] * layers[k] * group[k] for", "volumes[k] * (layers[k] * group[k]) for"),
+    ("mean by plain sums", "sum2(volumes[k] * layers[k] * group[k] for k in range(count))", "sum(volumes[k] * layers[k] * group[k] for k in range(count))"),
+    ("volume of a mean by a plain sum", "sum2(volumes[k] * group[k] for k in range(count))", "sum(volumes[k] * group[k] for k in range(count))"),
+    ("mean summed from the top", "sum2(volumes[k] * layers[k] * group[k] for k in range(count))", "sum2(volumes[k] * layers[k] * group[k] for k in reversed(range(count)))"),
+    ("mean without volumes", "sum2(volumes[k] * layers[k] * group[k] for k in range(count)),\n                    sum2(volumes[k] * group[k] for k in range(count)),",
+     "sum2(layers[k] * group[k] for k in range(count)),\n                    sum2(group[k] for k in range(count)),"),
+    ("rounds counted from 0", "return layers, rounds", "return layers, rounds - 1"),
+    ("ordered strictly", "all(layers[i] <= layers[i + 1]", "all(layers[i] < layers[i + 1]"),
+    ("switch-on below only", "begin[thermostat_layer] < lower or narrow(begin[thermostat_layer], lower)", "begin[thermostat_layer] < lower"),
+    ("switch-on wide", "narrow(begin[thermostat_layer], lower)", "wide(begin[thermostat_layer], lower)"),
+    ("switch-on by the heater's layer", "        begin[thermostat_layer] < lower or narrow(begin[thermostat_layer], lower)", "        begin[heater_layer] < lower or narrow(begin[heater_layer], lower)"),
+    ("flag kept without an upper set point", "    if upper is None:\n        flag = False\n    elif", "    if False:\n        pass\n    elif upper is not None and"),
+    ("gain grouped otherwise", "div(offers[i], heat_capacity)", "div(div(offers[i], tank.layer_volume), tank.density * tank.specific_heat)"),
+    ("mixing only if on", "mixed, rounds = mix([tank.layer_volume] * count, heated)", "mixed, rounds = mix([tank.layer_volume] * count, heated) if flag else (heated, 1)"),
+    ("h divided in turn", "(1000.0 * tank.standby) / (24.0 * 45.0)", "1000.0 * (tank.standby / (24.0 * 45.0))"),
+    ("loss grouped h x (density x heat)", "(h * tank.density * tank.specific_heat)", "(h * (tank.density * tank.specific_heat))"),
+    ("loss: layer share 1 / layers", "div(tank.layer_volume, tank.volume)", "(1.0 / count)"),
+    ("loss grouped from the right", "            * (counted - tank.ambient)\n            * tank.step_length", "            * ((counted - tank.ambient)\n            * tank.step_length)"),
+    ("charges taken off before the step length", "loss = max_of_2(0.0, loss - charged[i])", "loss = max_of_2(0.0, loss) - charged[i]"),
+    ("loss at least 0.0, never -0.0", "max_of_2(0.0, loss - charged[i])", "(loss - charged[i] if loss - charged[i] > 0.0 else 0.0)"),
+    ("charges not taken off", "loss - charged[i])", "loss)"),
+    ("charges added without 0 first", "charged = [0.0] * tank.count", "charged = [-0.0] * tank.count"),
+    ("warmed if above", "mixed[i] > begin[i] and not wide(mixed[i], begin[i])", "mixed[i] > begin[i]"),
+    ("warmed narrow", "not wide(mixed[i], begin[i])", "not narrow(mixed[i], begin[i])"),
+    ("warmed against the step's layers", "mixed[i] > begin[i] and not wide(mixed[i], begin[i])", "mixed[i] > tank.layers[i] and not wide(mixed[i], tank.layers[i])"),
+    ("loss of a warmed layer at its own temperature", "min_of_2(mixed[i], upper) if warmed and upper is not None else mixed[i]", "mixed[i]"),
+    ("all layers counted at the upper set point", "min_of_2(mixed[i], upper) if warmed and upper", "min_of_2(mixed[i], upper) if upper"),
+    ("equal to upper: the first", "return first if first < second else second", "return first if first <= second else second"),
+    ("equal maximum: the first", "return first if first > second else second", "return first if first >= second else second"),
+    ("limit: any layer above", "if warmed and upper is not None and mixed[i] > upper and not wide(mixed[i], upper):", "if upper is not None and mixed[i] > upper and not wide(mixed[i], upper):"),
+    ("limit: also when wide-close", "and mixed[i] > upper and not wide(mixed[i], upper):\n            after", "and mixed[i] > upper:\n            after"),
+    ("limited layer loses too", "after.append(upper)", "after.append(upper - div(loss, heat_capacity))"),
+    ("limited layer's loss not counted", "            after.append(upper)", "            after.append(upper)\n            losses[i] = 0.0"),
+    ("drop grouped otherwise", "after.append(mixed[i] - div(loss, heat_capacity))", "after.append(div(heat_capacity * mixed[i] - loss, heat_capacity))"),
+    ("surplus only if the heater's layer was warmed", "    if upper is not None and mixed[heater_layer] > upper and", "    if upper is not None and mixed[heater_layer] > begin[heater_layer] and mixed[heater_layer] > upper and"),
+    ("surplus from the bottom", "for i in range(heater_layer, count):", "for i in range(count):"),
+    ("surplus by layers above the set point", "            surplus += heat", "            if mixed[i] > upper:\n              surplus += heat"),
+    ("surplus by Sum2", "surplus += heat_capacity * mixed[i] - losses[i] - heat_capacity * upper", "pass\n        surplus = sum2(heat_capacity * mixed[i] - losses[i] - heat_capacity * upper for i in range(heater_layer, count))"),
+    ("surplus grouped otherwise", "heat_capacity * mixed[i] - losses[i] - heat_capacity * upper", "heat_capacity * (mixed[i] - upper) - losses[i]"),
+    ("surplus: set point taken off first", "heat_capacity * mixed[i] - losses[i] - heat_capacity * upper", "heat_capacity * mixed[i] - heat_capacity * upper - losses[i]"),
+    ("heat of a layer grouped otherwise", "heat_capacity * mixed[i] -", "tank.density * tank.specific_heat * (tank.layer_volume * mixed[i]) -"),
+    ("input by a plain sum", "offered = sum2(offers)", "offered = offers[heater_layer]"),
+    ("adjusted without a floor", "max_of_2(0.0, min_of_2(offered - surplus, offered))", "min_of_2(offered - surplus, offered)"),
+    ("adjusted without a ceiling", "max_of_2(0.0, min_of_2(offered - surplus, offered))", "max_of_2(0.0, offered - surplus)"),
+    ("supply of a figure wide-close to 0", "demand = 0.0 if wide(adjusted, 0.0) else adjusted", "demand = adjusted"),
+    ("the report keeps the cleared figure", "    supplied = min_of_2", "    adjusted = demand\n    supplied = min_of_2"),
+    ("supply 0 where off", "    supplied = min_of_2(demand, heater.rated * tank.step_length)", "    supplied = min_of_2(demand, heater.rated * tank.step_length) if flag else 0.0"),
+    ("supply min the other way round", "min_of_2(demand, heater.rated * tank.step_length)", "min_of_2(heater.rated * tank.step_length, demand)"),
+    ("switch-off above only", "after[thermostat_layer] > upper or narrow(after[thermostat_layer], upper)", "after[thermostat_layer] > upper"),
+    ("switch-off wide", "narrow(after[thermostat_layer], upper)", "wide(after[thermostat_layer], upper)"),
+    ("switch-off by the mixed layers", "after[thermostat_layer] > upper or narrow(after[thermostat_layer], upper)", "mixed[thermostat_layer] > upper or narrow(mixed[thermostat_layer], upper)"),
+    ("switch-off by the heater's layer", "after[thermostat_layer] > upper or narrow(after[thermostat_layer], upper)", "after[heater_layer] > upper or narrow(after[heater_layer], upper)"),
+    ("ties worked in reverse", "sorted(range(len(tank.heaters)), key=lambda i: tank.heaters[i].position)", "sorted(reversed(range(len(tank.heaters))), key=lambda i: tank.heaters[i].position)"),
+    ("heaters in the given order", "sorted(range(len(tank.heaters)), key=lambda i: tank.heaters[i].position)", "list(range(len(tank.heaters)))"),
+    ("losses by a plain sum", "sum2(losses), rounds", "sum(losses), rounds"),
+    ("recoverable by heater", "        lost += done.losses", "        lost += done.losses * 0.75"),
+    ("recoverable by Sum2", "    recoverable = lost * 0.75", "    recoverable = sum2(t.losses for t in turns) * 0.75"),
+    ("average of nothing is the initial temperature", "average = layers[-1] if", "average = tank.initial if"),
+    ("average of nothing narrow", "wide(totals.drawn, 0.0)", "narrow(totals.drawn, 0.0)"),
+    ("average by the bottom layer", "average = layers[-1] if", "average = layers[0] if"),
+    ("average after the heaters", "average = layers[-1] if wide(totals.drawn, 0.0) else div(totals.weighted, totals.drawn)", "average = div(totals.weighted, totals.drawn) if not wide(totals.drawn, 0.0) else tank.layers[-1]"),
+    ("layers not carried to the next heater", "        layers = done.layers\n", "        last = done.layers\n"),
+    ("10 not looked at after an event", "        if not all(map(finite, layers)) or not finite(energy) or not finite(used):\n            raise Refusal(10)", "        pass"),
+    ("10 not looked at after a turn", "        if not all(map(finite, layers)) or not all(map(finite, figures)):\n            raise Refusal(10)", "        pass"),
+    ("10 not looked at at the end", "    if not finite(average) or not finite(recoverable):\n        raise Refusal(10)", "    pass"),
+    ("an infinity close to any", "    if abs(a) == INF or abs(b) == INF:\n        return False\n", ""),
+    ("tolerance of the first", "1e-9 * max(abs(a), abs(b))", "1e-9 * abs(a)"),
+    ("tolerance of the second", "1e-9 * max(abs(a), abs(b))", "1e-9 * abs(b)"),
+    ("tolerance strict", "distance <= e or distance <= 1e-9", "distance < e or distance < 1e-9"),
+    ("tolerance of the sum", "1e-9 * max(abs(a), abs(b))", "1e-9 * (abs(a) + abs(b)) * 0.5"),
+]
+
+SHAPES = ["mix", "zeros", "near", "exact", "put", "range", "overflow", "hot-feed", "hysteresis", "day", "edges", "special", "tiny"]
+
+
+def main():
+    judge = sys.argv[1]
+    seeds = sys.argv[2] if len(sys.argv) > 2 else "400"
+    source = open(os.path.join(HERE, "model.py")).read()
+    unseen = 0
+    for number, (name, old, new) in enumerate(MUTANTS):
+        assert source.count(old) >= 1, "not in model.py: " + name
+        with tempfile.NamedTemporaryFile("w", suffix=".py", delete=False) as changed:
+            changed.write(source.replace(old, new))
+        seen = None
+        for shape in SHAPES:
+            run = subprocess.run(
+                [judge, "against", "server", shape, "0", seeds, sys.executable, changed.name, "serve"],
+                stdout=subprocess.PIPE, stderr=subprocess.PIPE, text=True)
+            if run.returncode != 0:
+                lines = run.stdout.splitlines() or ["the model stopped"]
+                seen = lines[0].replace("first difference: ", "") + (": " + lines[1] if len(lines) > 1 else "")
+                break
+        os.unlink(changed.name)
+        if seen is None:
+            unseen += 1
+        print("%d of %d: %s: %s" % (number + 1, len(MUTANTS), name, seen or "NOT SEEN"), flush=True)
+    print("%d changes, %d not seen" % (len(MUTANTS), unseen))
+
+
+if __name__ == "__main__":
+    main()
