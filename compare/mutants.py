@@ -3,9 +3,10 @@
 
     mutants.py JUDGE [SEEDS]
 
+    mutants.py JUDGE SEEDS WORDS    only the changes whose name has these words
+
 Each line below changes one place of model.py. The changed model is held against the judge, shape by shape,
-until an answer differs. A change that no seed shows is printed as such: either it can't be seen, and its note
-says why, or the shapes are too narrow.
+until an answer differs. A change that no seed shows is printed as such, and the program then ends with 1.
 """
 
 import os
@@ -15,7 +16,11 @@ import tempfile
 
 HERE = os.path.dirname(os.path.abspath(__file__))
 
-# name, old text, new text
+# Name, then old and new text, once or more.
+#
+# Not among them, because no input shows them: a donor's new temperature for its old one (donors lie below and
+# are refilled later); leaving out that a filled layer is full (nobody above takes from it); a surplus over the
+# layers above the set point only (mixed layers are in order).
 MUTANTS = [
     ("offer not added to 0", "0.0 + heater.rated * tank.step_length", "heater.rated * tank.step_length"),
     ("energy grouped from the right", "tank.density * tank.specific_heat * share * (layers[i] - cold(feed, wanted))",
@@ -33,7 +38,8 @@ MUTANTS = [
     ("draw stops only at or below 0", "        if empty(rest):\n            break", "        if rest <= 0.0:\n            break"),
     ("volume used is the volume wanted", "tank.volume - sum2(holds)", "wanted"),
     ("volume used by a plain sum", "tank.volume - sum2(holds)", "tank.volume - sum(holds)"),
-    ("energy runs through all events", "        energy += event_energy", "        for part in [event_energy]:\n            energy = energy + part + 0.0"),
+    ("energy runs through all events", "    energy = 0.0\n    for i in", "    energy = totals.energy\n    for i in",
+     "        energy += event_energy", "        energy = totals.energy = event_energy", "    drawn = 0.0\n", "    drawn = 0.0\n    energy = 0.0\n"),
     ("the lack closes only at or below 0, outer", "        if empty(lack):\n            break\n        heat", "        if lack <= 0.0:\n            break\n        heat"),
     ("the lack closes only at or below 0, inner", "            lack -= given\n            if empty(lack):", "            lack -= given\n            if lack <= 0.0:"),
     ("no feed for a lack wide-close to 0", "        if lack > 0.0:\n            entering", "        if lack > 0.0 and not wide(lack, 0.0):\n            entering"),
@@ -42,9 +48,7 @@ MUTANTS = [
     ("entering compared with the own layer only", "if layers[j] < coldest:", "if False:"),
     ("entering at least as warm", "if entering > coldest:", "if entering >= coldest:"),
     ("mixing only if the feed is warmer", "if entering > coldest:", "if feed > coldest:"),
-    ("donors' new temperatures", "heat += given * layers[j]", "heat += given * filled[j]"),
     ("refill's heat from the feed first", "heat = holds[i] * layers[i]\n", "heat = 0.0 + holds[i] * layers[i]\n"),
-    ("filled layer not marked full", "        holds[i] = total\n", ""),
     ("no mixing after an event", "        if mixing:", "        if False:"),
     ("mix strict inversions only", "layers[i] > layers[i + 1] or narrow(layers[i], layers[i + 1])", "layers[i] > layers[i + 1]"),
     ("mix wide-close pairs", "narrow(layers[i], layers[i + 1])", "wide(layers[i], layers[i + 1])"),
@@ -85,7 +89,6 @@ MUTANTS = [
     ("drop grouped otherwise", "after.append(mixed[i] - div(loss, heat_capacity))", "after.append(div(heat_capacity * mixed[i] - loss, heat_capacity))"),
     ("surplus only if the heater's layer was warmed", "    if upper is not None and mixed[heater_layer] > upper and", "    if upper is not None and mixed[heater_layer] > begin[heater_layer] and mixed[heater_layer] > upper and"),
     ("surplus from the bottom", "for i in range(heater_layer, count):", "for i in range(count):"),
-    ("surplus by layers above the set point", "            surplus += heat", "            if mixed[i] > upper:\n              surplus += heat"),
     ("surplus by Sum2", "surplus += heat_capacity * mixed[i] - losses[i] - heat_capacity * upper", "pass\n        surplus = sum2(heat_capacity * mixed[i] - losses[i] - heat_capacity * upper for i in range(heater_layer, count))"),
     ("surplus grouped otherwise", "heat_capacity * mixed[i] - losses[i] - heat_capacity * upper", "heat_capacity * (mixed[i] - upper) - losses[i]"),
     ("surplus: set point taken off first", "heat_capacity * mixed[i] - losses[i] - heat_capacity * upper", "heat_capacity * mixed[i] - heat_capacity * upper - losses[i]"),
@@ -109,7 +112,7 @@ MUTANTS = [
     ("average of nothing is the initial temperature", "average = layers[-1] if", "average = tank.initial if"),
     ("average of nothing narrow", "wide(totals.drawn, 0.0)", "narrow(totals.drawn, 0.0)"),
     ("average by the bottom layer", "average = layers[-1] if", "average = layers[0] if"),
-    ("average after the heaters", "average = layers[-1] if wide(totals.drawn, 0.0) else div(totals.weighted, totals.drawn)", "average = div(totals.weighted, totals.drawn) if not wide(totals.drawn, 0.0) else tank.layers[-1]"),
+    ("average of nothing after the heaters", "    recoverable = lost * 0.75", "    if wide(totals.drawn, 0.0):\n        average = layers[-1]\n    recoverable = lost * 0.75"),
     ("layers not carried to the next heater", "        layers = done.layers\n", "        last = done.layers\n"),
     ("10 not looked at after an event", "        if not all(map(finite, layers)) or not finite(energy) or not finite(used):\n            raise Refusal(10)", "        pass"),
     ("10 not looked at after a turn", "        if not all(map(finite, layers)) or not all(map(finite, figures)):\n            raise Refusal(10)", "        pass"),
@@ -129,10 +132,14 @@ def main():
     seeds = sys.argv[2] if len(sys.argv) > 2 else "400"
     source = open(os.path.join(HERE, "model.py")).read()
     unseen = 0
-    for number, (name, old, new) in enumerate(MUTANTS):
-        assert source.count(old) >= 1, "not in model.py: " + name
+    chosen = [mutant for mutant in MUTANTS if len(sys.argv) < 4 or sys.argv[3] in mutant[0]]
+    for number, (name, *texts) in enumerate(chosen):
+        wrong = source
+        for old, new in zip(texts[::2], texts[1::2]):
+            assert old in wrong, "not in model.py: " + name
+            wrong = wrong.replace(old, new)
         with tempfile.NamedTemporaryFile("w", suffix=".py", delete=False) as changed:
-            changed.write(source.replace(old, new))
+            changed.write(wrong)
         seen = None
         for shape in SHAPES:
             run = subprocess.run(
@@ -145,8 +152,9 @@ def main():
         os.unlink(changed.name)
         if seen is None:
             unseen += 1
-        print("%d of %d: %s: %s" % (number + 1, len(MUTANTS), name, seen or "NOT SEEN"), flush=True)
-    print("%d changes, %d not seen" % (len(MUTANTS), unseen))
+        print("%d of %d: %s: %s" % (number + 1, len(chosen), name, seen or "NOT SEEN"), flush=True)
+    print("%d changes, %d not seen" % (len(chosen), unseen))
+    sys.exit(1 if unseen else 0)
 
 
 if __name__ == "__main__":

@@ -1,6 +1,8 @@
 mod against;
 mod candidate;
+mod figures;
 mod job;
+mod list;
 mod oracle;
 mod rng;
 mod shapes;
@@ -28,6 +30,25 @@ fn main() {
         ["show", shape, seed] => {
             print!("{}", against::tell(shape, number(seed)));
             true
+        }
+        ["mix", volume, ref layers @ ..] => {
+            let double = |word: &str| -> f64 { word.parse().unwrap_or_else(|_| panic!("{word} is no number")) };
+            let layers: Vec<f64> = layers.iter().map(|word| double(word)).collect();
+            println!("{}", oracle::mix_line(double(volume), &layers).text);
+            true
+        }
+        ["list", "write", folder, each] => {
+            let mut about = String::new();
+            std::io::stdin().read_to_string(&mut about).unwrap();
+            list::write(folder.as_ref(), number(each), &about);
+            true
+        }
+        ["list", "test", folder] => list::self_test(folder.as_ref()),
+        ["list", "replay", folder, "server", ref command @ ..] => {
+            list::replay(folder.as_ref(), &mut candidate::Server::new(command))
+        }
+        ["list", "replay", folder, "program", ref command @ ..] => {
+            list::replay(folder.as_ref(), &mut candidate::Program::new(command))
         }
         ["against", "server", shape, from, count, ref command @ ..] => {
             let mut server = candidate::Server::new(command);

@@ -343,6 +343,15 @@ fn near_ones(rng: &mut Rng, writer: &mut Writer) {
         let each = near(rng, 1e-10);
         tank.volume = each * layers as f64;
     }
+    if rng.one_in(6) {
+        // So large that a rounding error is about the wide tolerance.
+        tank.volume = 10f64.powf(rng.between(4.0, 6.5));
+    }
+    let coarse = rng.one_in(8);
+    if coarse {
+        // Here a draw a little above the wide tolerance leaves a lack a little below it.
+        tank.volume = rng.between(131_072.0, 262_143.0) * layers as f64;
+    }
     if rng.one_in(4) {
         tank.standby = 0.0;
     }
@@ -359,14 +368,16 @@ fn near_ones(rng: &mut Rng, writer: &mut Writer) {
     }
     let each = tank.volume / layers as f64;
     for _ in 0..rng.from_to(1, 6) {
-        let feed = near(rng, tank.initial);
+        let feed = if coarse { 10.0 } else { near(rng, tank.initial) };
         let volumes = (0..rng.below(5))
             .map(|_| {
                 let whole = each * rng.from_to(1, layers as u64 + 1) as f64;
                 let volume = match rng.below(5) {
+                    _ if coarse => whole + 1e-10 * rng.between(0.99, 1.03),
                     0 => near(rng, 1e-10),
                     1 => near(rng, whole),
                     2 => whole + near(rng, 1e-10),
+                    3 if rng.one_in(2) => whole + 1e-10 * rng.between(0.5, 4.0),
                     3 => whole,
                     _ => rng.between(0.0, tank.volume),
                 };
@@ -513,17 +524,17 @@ fn hysteresis(rng: &mut Rng, writer: &mut Writer) {
 fn zeros(rng: &mut Rng, writer: &mut Writer) {
     let any = [0.0, -0.0, 0.0, -0.0, 5e-324, -5e-324, 1.0, -1.0];
     let not_below = [0.0, -0.0, 0.0, -0.0, 5e-324, 1.0, 16.0];
-    let layers = rng.from_to(1, 4) as usize;
+    let layers = *rng.pick(&[1, 1, 1, 2, 2, 3, 4]);
     let heaters = rng.from_to(0, 3) as usize;
     let tank = Making {
         layers,
         volume: *rng.pick(&[16.0, 48.0, 1.0, 5e-324]),
         standby: *rng.pick(&not_below),
         initial: *rng.pick(&any),
-        density: *rng.pick(&[1.0, 1.0, 5e-324]),
-        specific_heat: *rng.pick(&[1.0, 1.0, 0.5, 5e-324]),
+        density: *rng.pick(&[1.0, 1.0, 1.0, 1.0, 5e-324]),
+        specific_heat: *rng.pick(&[1.0, 1.0, 1.0, 0.5, 5e-324]),
         ambient: *rng.pick(&any),
-        step: *rng.pick(&[1.0, 1.0, 5e-324]),
+        step: *rng.pick(&[1.0, 1.0, 1.0, 5e-324]),
     };
     writer.tank(&tank);
     let each = tank.volume / layers as f64;
@@ -864,5 +875,12 @@ pub fn mix(seed: u64) -> (f64, Vec<f64>) {
         4..=9 => 16.0,
         _ => rng.between(0.5, 60.0),
     };
+    if count >= 2 && rng.one_in(6) {
+        // Two layers on the edge of narrow-close, and more far above.
+        let low = rng.between(-90.0, 90.0);
+        let mut layers = vec![low, near(rng, low)];
+        layers.extend((2..count).map(|i| 1000.0 * i as f64));
+        return (volume, layers);
+    }
     (volume, any_layers(rng, count))
 }
