@@ -1,12 +1,11 @@
 #!/usr/bin/env python3
-"""Shows that random jobs tell a slightly wrong model from the Rust.
+"""Wrong models of document 01, each a small step from the right one, that the comparison must tell apart.
 
-    mutants.py JUDGE [SEEDS]
+    mutants.py check JUDGE LIST             each must differ from a stored answer
+    mutants.py choose JUDGE SEEDS > FILE    look for a seed that shows each, as lines of LIST/chosen.txt
 
-    mutants.py JUDGE SEEDS WORDS    only the changes whose name has these words
-
-Each line below changes one place of model.py. The changed model is held against the judge, shape by shape,
-until an answer differs. A change that no seed shows is printed as such, and the program then ends with 1.
+Each line below changes one place of model.py; the changed model then stands in for a candidate. The program
+ends with 1 if a change is not seen.
 """
 
 import os
@@ -20,7 +19,9 @@ HERE = os.path.dirname(os.path.abspath(__file__))
 #
 # Not among them, because no input shows them: a donor's new temperature for its old one (donors lie below and
 # are refilled later); leaving out that a filled layer is full (nobody above takes from it); a surplus over the
-# layers above the set point only (mixed layers are in order).
+# layers above the set point only (mixed layers are in order); and, while all layers are equal, going on to the
+# next donor, or taking nothing from the feed, with a lack above 0 but wide-close to it (layer volume, rest and
+# lack share one grid of doubles, so a lack that closes is exactly 0).
 MUTANTS = [
     ("offer not added to 0", "0.0 + heater.rated * tank.step_length", "heater.rated * tank.step_length"),
     ("energy grouped from the right", "tank.density * tank.specific_heat * share * (layers[i] - cold(feed, wanted))",
@@ -40,9 +41,7 @@ MUTANTS = [
     ("volume used by a plain sum", "tank.volume - sum2(holds)", "tank.volume - sum(holds)"),
     ("energy runs through all events", "    energy = 0.0\n    for i in", "    energy = totals.energy\n    for i in",
      "        energy += event_energy", "        energy = totals.energy = event_energy", "    drawn = 0.0\n", "    drawn = 0.0\n    energy = 0.0\n"),
-    ("the lack closes only at or below 0, outer", "        if empty(lack):\n            break\n        heat", "        if lack <= 0.0:\n            break\n        heat"),
-    ("the lack closes only at or below 0, inner", "            lack -= given\n            if empty(lack):", "            lack -= given\n            if lack <= 0.0:"),
-    ("no feed for a lack wide-close to 0", "        if lack > 0.0:\n            entering", "        if lack > 0.0 and not wide(lack, 0.0):\n            entering"),
+    ("the filling ends only at a lack at or below 0", "        if empty(lack):\n            break\n        heat", "        if lack <= 0.0:\n            break\n        heat"),
     ("entering at the feed", "entering = cold(feed, lack)", "entering = feed"),
     ("coldest without the layer's own", "coldest = layers[i]", "coldest = layers[i] if holds[i] > 0.0 else INF"),
     ("entering compared with the own layer only", "if layers[j] < coldest:", "if False:"),
@@ -124,16 +123,26 @@ MUTANTS = [
     ("tolerance of the sum", "1e-9 * max(abs(a), abs(b))", "1e-9 * (abs(a) + abs(b)) * 0.5"),
 ]
 
+# Quick ones first.
 SHAPES = ["mix", "zeros", "near", "exact", "put", "range", "overflow", "hot-feed", "hysteresis", "day", "edges", "special", "tiny"]
 
 
+def difference(judge, words, model):
+    """What `judge` prints of the first difference, or nothing."""
+    command = [judge] + words + ["server", sys.executable, model, "serve"]
+    if words[0] == "against":
+        command = [judge, "against", "server"] + words[1:] + [sys.executable, model, "serve"]
+    run = subprocess.run(command, stdout=subprocess.PIPE, stderr=subprocess.PIPE, text=True)
+    if run.returncode == 0:
+        return None
+    return (run.stdout.splitlines() or ["the model stopped"])[0]
+
+
 def main():
-    judge = sys.argv[1]
-    seeds = sys.argv[2] if len(sys.argv) > 2 else "400"
+    mode, judge, where = sys.argv[1:4]
     source = open(os.path.join(HERE, "model.py")).read()
     unseen = 0
-    chosen = [mutant for mutant in MUTANTS if len(sys.argv) < 4 or sys.argv[3] in mutant[0]]
-    for number, (name, *texts) in enumerate(chosen):
+    for number, (name, *texts) in enumerate(MUTANTS):
         wrong = source
         for old, new in zip(texts[::2], texts[1::2]):
             assert old in wrong, "not in model.py: " + name
@@ -141,19 +150,20 @@ def main():
         with tempfile.NamedTemporaryFile("w", suffix=".py", delete=False) as changed:
             changed.write(wrong)
         seen = None
-        for shape in SHAPES:
-            run = subprocess.run(
-                [judge, "against", "server", shape, "0", seeds, sys.executable, changed.name, "serve"],
-                stdout=subprocess.PIPE, stderr=subprocess.PIPE, text=True)
-            if run.returncode != 0:
-                lines = run.stdout.splitlines() or ["the model stopped"]
-                seen = lines[0].replace("first difference: ", "") + (": " + lines[1] if len(lines) > 1 else "")
-                break
+        if mode == "check":
+            seen = difference(judge, ["list", "replay", where], changed.name)
+        else:
+            for shape in SHAPES:
+                found = difference(judge, ["against", shape, "0", where], changed.name)
+                if found:
+                    seen = found.replace("first difference: shape ", "").replace(", seed", "")
+                    print("%s %s" % (seen, name), flush=True)
+                    break
         os.unlink(changed.name)
         if seen is None:
             unseen += 1
-        print("%d of %d: %s: %s" % (number + 1, len(chosen), name, seen or "NOT SEEN"), flush=True)
-    print("%d changes, %d not seen" % (len(chosen), unseen))
+        print("%d of %d: %s: %s" % (number + 1, len(MUTANTS), name, seen or "NOT SEEN"), file=sys.stderr, flush=True)
+    print("%d changes, %d not seen" % (len(MUTANTS), unseen), file=sys.stderr)
     sys.exit(1 if unseen else 0)
 
 

@@ -317,13 +317,20 @@ fn refusals() -> Vec<Case> {
         ),
         case(
             "10 at the end: the average too large",
-            Maker::tank(Making { density: 1e-300, ..plain(1, 1e308) }).step(1e308, &[16.0], &[]),
+            Maker::tank(Making { volume: 1.0, ..plain(1, 1.7e308) }).step(1.7e308, &[1.0, 1.0], &[]),
         ),
         case(
             "10 at the end: the losses too large together",
-            Maker::tank(Making { standby: 1.08e308, ambient: 0.0, ..plain(1, 1000.0) })
-                .heater(heater(0.0, 0.0))
-                .step(12.0, &[], &[UNSET]),
+            Maker::tank(Making { volume: 2.0, standby: 1.08e305, step: 20.0, ..plain(2, 20.0) })
+                .heater(heater(1000.0, 0.0))
+                .heater(heater(1000.0, 0.0))
+                .step(12.0, &[], &[both(30.0, 100.0), both(110.0, 140.0)]),
+        ),
+        case(
+            "10 after a turn: the losses of its layers too large together",
+            Maker::tank(Making { volume: 2.0, standby: 1.08e305, step: 20.0, ..plain(2, 20.0) })
+                .heater(heater(1000.0, 0.0))
+                .step(12.0, &[], &[both(30.0, 150.0)]),
         ),
         case("11: cut short", Maker::tank(one()).record(3, &[0; 9])),
         case("11: unknown kind", Maker::tank(one()).record(4, &[0; 10])),
