@@ -3,6 +3,7 @@
 
     mutants.py check JUDGE LIST             each must differ from a stored answer
     mutants.py choose JUDGE SEEDS > FILE    look for a seed that shows each, as lines of LIST/chosen.txt
+    mutants.py choose JUDGE SEEDS WORDS     the same for those with these words in their names
 
 Each line below changes one place of model.py; the changed model then stands in for a candidate. The program
 ends with 1 if a change is not seen.
@@ -20,8 +21,9 @@ HERE = os.path.dirname(os.path.abspath(__file__))
 # Not among them, because no input shows them: a donor's new temperature for its old one (donors lie below and
 # are refilled later); leaving out that a filled layer is full (nobody above takes from it); a surplus over the
 # layers above the set point only (mixed layers are in order); and, while all layers are equal, going on to the
-# next donor, or taking nothing from the feed, with a lack above 0 but wide-close to it (layer volume, rest and
-# lack share one grid of doubles, so a lack that closes is exactly 0).
+# next donor, or taking nothing from the feed, with a lack above 0 but wide-close to it, or dividing a filled
+# layer's heat by the layer volume (layer volume, rest and lack share one grid of doubles, so a lack that closes
+# is exactly 0 and a filled layer is exactly full).
 MUTANTS = [
     ("offer not added to 0", "0.0 + heater.rated * tank.step_length", "heater.rated * tank.step_length"),
     ("energy grouped from the right", "tank.density * tank.specific_heat * share * (layers[i] - cold(feed, wanted))",
@@ -32,6 +34,11 @@ MUTANTS = [
     ("rest's energy by cold of the event", "(feed - cold(feed, rest))", "(feed - cold(feed, wanted))"),
     ("rest only if not wide-close to 0", "if rest > 0.0:", "if rest > 0.0 and not wide(rest, 0.0):"),
     ("rest not counted in the volume drawn", "totals.drawn += rest", "pass"),
+    ("weighted sum event by event", "    rest = wanted\n", "    rest = wanted\n    before, totals.weighted = totals.weighted, 0.0\n",
+     "    return holds, energy, tank", "    totals.weighted = before + totals.weighted\n    return holds, energy, tank"),
+    ("charges taken off one by one", "charged = [0.0] * tank.count", "charged = [()] * tank.count",
+     "[a + b for a, b in zip(charged, done.charges)]", "[a + (b,) for a, b in zip(charged, done.charges)]",
+     "loss - charged[i]", "__import__('functools').reduce(lambda x, y: x - y, charged[i], loss)"),
     ("cold's sums folded: feed x v / v", "div(sum2([feed * v]), sum2([v]))", "div(feed * v, v)"),
     ("a layer gives all only if smaller", "if holds[i] < rest or narrow(holds[i], rest):", "if holds[i] < rest:"),
     ("a layer gives all if wide-close", "narrow(holds[i], rest)", "wide(holds[i], rest)"),
@@ -140,9 +147,10 @@ def difference(judge, words, model):
 
 def main():
     mode, judge, where = sys.argv[1:4]
+    chosen = [mutant for mutant in MUTANTS if all(words in mutant[0] for words in sys.argv[4:])]
     source = open(os.path.join(HERE, "model.py")).read()
     unseen = 0
-    for number, (name, *texts) in enumerate(MUTANTS):
+    for number, (name, *texts) in enumerate(chosen):
         wrong = source
         for old, new in zip(texts[::2], texts[1::2]):
             assert old in wrong, "not in model.py: " + name
@@ -162,8 +170,8 @@ def main():
         os.unlink(changed.name)
         if seen is None:
             unseen += 1
-        print("%d of %d: %s: %s" % (number + 1, len(MUTANTS), name, seen or "NOT SEEN"), file=sys.stderr, flush=True)
-    print("%d changes, %d not seen" % (len(MUTANTS), unseen), file=sys.stderr)
+        print("%d of %d: %s: %s" % (number + 1, len(chosen), name, seen or "NOT SEEN"), file=sys.stderr, flush=True)
+    print("%d changes, %d not seen" % (len(chosen), unseen), file=sys.stderr)
     sys.exit(1 if unseen else 0)
 
 

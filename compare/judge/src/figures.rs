@@ -394,8 +394,8 @@ fn readings() -> Vec<Case> {
             Maker::tank(plain(1, -0.0)).step(-0.0, &[16.0], &[]),
         ),
         case(
-            "an empty layer keeps the sign of its old temperature",
-            Maker::tank(plain(2, -40.0)).step(-0.0, &[32.0], &[]),
+            "a refilled layer's heat starts from its own, 0 x -0.0 if it is empty",
+            Maker::tank(plain(2, -0.0)).step(0.0, &[16.0], &[]),
         ),
         case(
             "a loss of -0.0: the larger of 0 and -0.0 is the second",
@@ -458,6 +458,61 @@ fn readings() -> Vec<Case> {
                 .step(10.0, &[], &[both(50.0, 60.0)]),
         ),
         case(
+            "energy is density x specific heat x share x difference, from the left",
+            Maker::tank(Making { volume: 1.0, density: 0.7, specific_heat: 0.3, ..plain(1, 60.0) })
+                .step(10.0, &[0.1], &[]),
+        ),
+        case(
+            "an event's energy is a sum of its own",
+            Maker::tank(Making { volume: 1.0, ..plain(2, 60.0) }).step(10.1, &[0.1, 0.7], &[]),
+        ),
+        case(
+            "a gain is offer / (density x specific heat x layer volume)",
+            Maker::tank(Making { volume: 3.0, density: 0.7, specific_heat: 0.3, ..plain(1, 36.0) })
+                .heater(heater(14.0, 0.5))
+                .step(10.0, &[], &[both(65.0, 75.0)]),
+        ),
+        case(
+            "a layer's part of the losses is layer volume / volume",
+            Maker::tank(Making { volume: 10.0, standby: 1.0, ..plain(3, 36.0) })
+                .heater(heater(1.0, 0.0))
+                .step(10.0, &[], &[UNSET]),
+        ),
+        case(
+            "a loss is multiplied from the left, the step length last",
+            Maker::tank(Making { volume: 1.0, standby: 1.0, step: 0.1, ..plain(1, 36.0) })
+                .heater(heater(1.0, 0.0))
+                .step(10.0, &[], &[both(40.0, 60.0)]),
+        ),
+        case(
+            "a surplus is heat - loss - heat at the set point, heats first",
+            Maker::tank(Making { volume: 1.0, density: 0.7, specific_heat: 0.3, ..plain(1, 36.0) })
+                .heater(heater(7.0, 0.0))
+                .step(10.0, &[], &[both(40.0, 60.0)]),
+        ),
+        case(
+            "a surplus takes the loss off before the heat at the set point",
+            Maker::tank(Making { volume: 1.0, standby: 1.0, ..plain(1, 36.0) })
+                .heater(heater(100.0, 0.0))
+                .heater(heater(300.0, 0.0))
+                .heater(heater(200.0, 0.5))
+                .step(10.0, &[], &[UNSET, both(70.0, 80.0), both(65.0, 75.0)]),
+        ),
+        case(
+            "heat of a layer is ((density x specific heat) x layer volume) x temperature",
+            Maker::tank(Making { volume: 3.0, density: 0.7, specific_heat: 0.3, ..plain(1, 36.0) })
+                .heater(heater(100.0, 0.0))
+                .step(10.0, &[], &[both(40.0, 60.0)]),
+        ),
+        case(
+            "the losses of several heaters are added plainly",
+            Maker::tank(Making { volume: 1.0, standby: 1.0, density: 0.7, specific_heat: 0.3, ..plain(2, 36.0) })
+                .heater(heater(3.3, 0.0))
+                .heater(heater(6.6, 0.5))
+                .heater(heater(3.3 * 3.0, 0.0))
+                .step(10.0, &[], &[UNSET, both(65.0, 75.0), both(70.0, 80.0)]),
+        ),
+        case(
             "two heaters at one place work in the given order",
             Maker::tank(plain(2, 40.0))
                 .heater(heater(16.0, 0.0))
@@ -503,6 +558,9 @@ pub fn mixes() -> Vec<MixCase> {
         plain("two payloads", &[odd(0x7ff0_0000_0000_0001), odd(0xfff4_dead_beef_0001)], None),
         plain("01: 40 under 40.00000001", &[40.0, 40.000_000_01], None),
         plain("40 under the next double past narrow-close", &[40.0, 40.000_000_040_000_01], None),
+        plain("43 under 43.000000043: the tolerance is that of the larger, above", &[43.0, 43.000_000_043], None),
+        plain("10.81 under 10.81000001081: of the larger, not of both", &[10.81, 10.810_000_010_81], None),
+        plain("-10.61 under -10.60999998939: the larger is below", &[-10.61, -10.609_999_989_39], None),
         plain("1 under infinity", &[1.0, inf], None),
         plain("infinity under infinity", &[inf, inf], None),
         plain("-infinity under 1", &[-inf, 1.0], None),
