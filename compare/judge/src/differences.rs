@@ -122,8 +122,8 @@ pub fn all() -> Vec<Difference> {
         differ("step length 0", 3, GoesOn)
             .tank(|m| m.step = 0.0)
             .heater(heater(1.0, 0.0), both(50.0, 60.0)),
-        differ("standby loss -1", 4, GoesOn)
-            .tank(|m| m.standby = -1.0)
+        differ("standby loss -1, ambient 0", 4, GoesOn)
+            .tank(|m| (m.standby, m.ambient) = (-1.0, 0.0))
             .heater(heater(1.0, 0.0), UNSET),
         differ("initial temperature not-a-number in one layer", 4, GoesOn)
             .tank(|m| m.initial = f64::NAN)
@@ -144,8 +144,12 @@ pub fn all() -> Vec<Difference> {
         differ("rated power infinite, on", 5, GoesOn)
             .heater(heater(inf, 0.0), both(50.0, 60.0)),
         differ("position 1", 5, Panics).heater(heater(1.0, 1.0), UNSET),
-        differ("position -0.5", 5, GoesOn).heater(heater(1.0, -0.5), UNSET),
-        differ("position not-a-number", 5, GoesOn).heater(heater(1.0, nan), UNSET),
+        differ("position -0.5, two layers, on", 5, GoesOn)
+            .tank(|m| (m.layers, m.volume) = (2, 32.0))
+            .heater(heater(1.0, -0.5), both(50.0, 60.0)),
+        differ("position not-a-number, two layers, on", 5, GoesOn)
+            .tank(|m| (m.layers, m.volume) = (2, 32.0))
+            .heater(heater(1.0, nan), both(50.0, 60.0)),
         differ("thermostat at 1, set points", 5, Panics).heater(
             Heater {
                 thermostat: Some(1.0),
@@ -275,5 +279,15 @@ pub fn run() -> bool {
         let mark = if as_written { "" } else { "  <- NOT AS WRITTEN" };
         println!("{number:>2} {rust:?}: {}: {words}{mark}", case.name);
     }
-    fine
+    fine && half_stepped()
+}
+
+/// An error of the Rust comes after the events: its tank is not as it was.
+fn half_stepped() -> bool {
+    let tank = Tank::new(&plain(1, 20.0), &[heater(1.0, 0.0)]).expect("a good tank is made");
+    let before = tank.state();
+    let erred = tank.step(12.0, &[4.0], &[(Some(50.0), None)]).is_err();
+    let after = tank.state();
+    println!("an error after a draw of 4: layers {:?}, before {:?}", after.layers, before.layers);
+    erred && before != after
 }

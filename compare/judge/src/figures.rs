@@ -572,7 +572,12 @@ pub fn mixes() -> Vec<MixCase> {
         plain("33 layers", &[20.0; 33], None),
         plain("32 layers falling", &(0..32).map(|i| 90.0 - i as f64).collect::<Vec<_>>(), None),
         plain(
-            "32 layers, ever more rounds",
+            "32 layers in 31 rounds: the cold top takes in one layer more each time",
+            &(0..32).map(|i| if i == 31 { -1e6 } else { i as f64 }).collect::<Vec<_>>(),
+            None,
+        ),
+        plain(
+            "32 layers, every second one cold",
             &(0..32).map(|i| if i % 2 == 0 { i as f64 } else { -3.0 * i as f64 }).collect::<Vec<_>>(),
             None,
         ),

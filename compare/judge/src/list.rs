@@ -335,6 +335,44 @@ pub fn stored(folder: &Path) -> Vec<Stored> {
     all
 }
 
+/// The list for a program that is run once: `jobs.stdin`, `put.stdin` and `mix.stdin` hold the cases without
+/// answers (a 4-byte length and a job; a 2-byte count, the layer volume and the layers), and `jobs.stdout` and so
+/// on what is to be printed: for each case a line `J` or `M` and its index, then its lines.
+pub fn export(folder: &Path, to: &Path) {
+    let mut files: [(&str, Vec<u8>, String, usize); 3] = ["jobs", "put", "mix"].map(|name| (name, Vec::new(), String::new(), 0));
+    for one in stored(folder) {
+        if one.name.starts_with("long") {
+            continue;
+        }
+        let mut bytes = Vec::new();
+        let (at, mark) = match &one.kind {
+            Kind::Job(job) => {
+                framed(job, &mut bytes);
+                (0, 'J')
+            }
+            Kind::Put(job) => {
+                framed(job, &mut bytes);
+                (1, 'J')
+            }
+            Kind::Mix(volume, layers) => {
+                bytes.extend_from_slice(&(layers.len() as u16).to_le_bytes());
+                bytes.extend_from_slice(&volume.to_le_bytes());
+                layers.iter().for_each(|layer| bytes.extend_from_slice(&layer.to_le_bytes()));
+                (2, 'M')
+            }
+        };
+        let (_, stdin, stdout, count) = &mut files[at];
+        stdin.extend_from_slice(&bytes);
+        stdout.push_str(&format!("{mark} {count}\n{}", one.expected));
+        *count += 1;
+    }
+    for (name, stdin, stdout, count) in &files {
+        fs::write(to.join(format!("{name}.stdin")), stdin).expect("the folder takes a file");
+        fs::write(to.join(format!("{name}.stdout")), stdout).expect("the folder takes a file");
+        println!("{name}: {count} cases, {} bytes in, {} bytes out", stdin.len(), stdout.len());
+    }
+}
+
 fn lines_of(text: &str) -> Vec<Line> {
     text.lines()
         .map(|line| Line {

@@ -20,11 +20,13 @@ judge show SHAPE SEED                         the same in words
 judge against server SHAPE FROM N COMMAND...  N seeds of a shape, or of all, against a process that answers requests
 judge against program SHAPE FROM N COMMAND... the same against a program started for each job
 judge list write FOLDER EACH                  writes the stored list, EACH random jobs of each shape
+judge list export FOLDER TO                   the list as what programs read and must print, into the folder TO
 judge list test FOLDER                        the list says what the judge says, and wrong stand-ins change it
 judge list replay FOLDER server COMMAND...    the list against a process that answers requests
 judge list replay FOLDER program COMMAND...   the list against a program started for each job
 judge parts FROM N                            N seeds of each shape: steps worked whole and in parts agree
 judge differences                             where the Rust and document 01 part, run
+judge rounds N                                the most rounds in N random mixings of finite layers
 judge speed N                                 jobs a second, shape by shape
 ";
 
@@ -60,6 +62,37 @@ fn speed(count: u64) {
         let (jobs, steps) = (count as f64 / took, steps as f64 / took);
         println!("{shape:12} {jobs:>8.0} jobs/s {steps:>8.0} steps/s");
     }
+}
+
+/// The most rounds met in mixings that end, by the number of layers.
+fn rounds(count: u64) {
+    let mut most = [0; job::MOST_LAYERS + 1];
+    for seed in 0..count {
+        let mut rng = rng::Rng::new("rounds", seed);
+        let layers = rng.from_to(2, job::MOST_LAYERS as u64) as usize;
+        let fall = rng.between(0.0, 12.0);
+        let kind = rng.below(5);
+        let temperatures: Vec<f64> = (0..layers)
+            .map(|at| match kind {
+                0 => rng.between(0.0, 90.0),
+                1 => rng.below(4) as f64,
+                2 => at as f64 * 10.0 - fall * (at * at) as f64 * rng.unit(),
+                // The cold top pulls one layer more into its group in each round.
+                3 => {
+                    if at + 1 == layers {
+                        -1e6
+                    } else {
+                        at as f64 * (1.0 + fall)
+                    }
+                }
+                _ => -(fall.powi(at as i32 % 9)),
+            })
+            .collect();
+        if let Ok((_, rounds)) = oracle::mix(rng.between(1.0, 20.0), &temperatures) {
+            most[layers] = most[layers].max(rounds);
+        }
+    }
+    println!("most rounds for 2, 3, ... {} layers: {:?}", job::MOST_LAYERS, &most[2..]);
 }
 
 fn main() {
@@ -103,6 +136,10 @@ fn main() {
             list::write(folder.as_ref(), number(each), &about);
             true
         }
+        ["list", "export", folder, to] => {
+            list::export(folder.as_ref(), to.as_ref());
+            true
+        }
         ["list", "test", folder] => list::self_test(folder.as_ref()),
         ["list", "replay", folder, "server", ref command @ ..] if !command.is_empty() => {
             list::replay(folder.as_ref(), &mut candidate::Server::new(command))
@@ -112,6 +149,10 @@ fn main() {
         }
         ["parts", from, count] => parts(number(from), number(count)),
         ["differences"] => differences::run(),
+        ["rounds", count] => {
+            rounds(number(count));
+            true
+        }
         ["speed", count] => {
             speed(number(count));
             true
