@@ -48,4 +48,20 @@ impl Rng {
     pub fn pick<'a, T>(&mut self, from: &'a [T]) -> &'a T {
         &from[self.below(from.len() as u64) as usize]
     }
+
+    /// A size between about 10^low and 10^high, any exponent as likely as another. Made of bits, because a
+    /// library's powers differ between machines.
+    pub fn sized(&mut self, low: f64, high: f64) -> f64 {
+        const BITS_OF_TEN: f64 = 3.321_928_094_887_362;
+        let (low, high) = ((low * BITS_OF_TEN) as i64, (high * BITS_OF_TEN) as i64);
+        let draw = self.next();
+        let exponent = low + ((draw >> 52) as i64 * (high - low + 1)) / 4096;
+        let mantissa = f64::from_bits((1023 << 52) | (draw & ((1 << 52) - 1)));
+        let two_to = |exponent: i64| f64::from_bits(((1023 + exponent) as u64) << 52);
+        if exponent < -1000 {
+            mantissa * two_to(exponent + 200) * two_to(-200)
+        } else {
+            mantissa * two_to(exponent)
+        }
+    }
 }

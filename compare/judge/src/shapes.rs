@@ -63,7 +63,7 @@ fn near(rng: &mut Rng, x: f64) -> f64 {
         2 => x * (1.0 - 1e-9),
         3 => x + 1e-10,
         4 => x - 1e-10,
-        5 => x + 2f64.powi(-52),
+        5 => x + f64::EPSILON,
         _ => x * (1.0 + 1e-9 * rng.between(-1.5, 1.5)),
     };
     nudge(rng, y)
@@ -345,7 +345,7 @@ fn near_ones(rng: &mut Rng, writer: &mut Writer) {
     }
     if rng.one_in(6) {
         // So large that a rounding error is about the wide tolerance.
-        tank.volume = 10f64.powf(rng.between(4.0, 6.5));
+        tank.volume = rng.sized(4.0, 6.5);
     }
     let coarse = rng.one_in(8);
     if coarse {
@@ -413,7 +413,7 @@ fn overflow(rng: &mut Rng, writer: &mut Writer) {
     let layers = rng.from_to(1, 6) as usize;
     let heaters = rng.from_to(0, 3) as usize;
     let mut tank = day_tank(rng, layers);
-    let large = |rng: &mut Rng| 10f64.powf(rng.between(150.0, 308.2)) * if rng.one_in(3) { -1.0 } else { 1.0 };
+    let large = |rng: &mut Rng| rng.sized(150.0, 308.2) * if rng.one_in(3) { -1.0 } else { 1.0 };
     match rng.below(8) {
         0 => tank.initial = large(rng),
         1 => tank.volume = large(rng).abs(),
@@ -579,7 +579,7 @@ fn range(rng: &mut Rng, writer: &mut Writer) {
         if rng.one_in(3) {
             rng.between(0.5, 80.0)
         } else {
-            10f64.powf(rng.between(-wide, wide))
+            rng.sized(-wide, wide)
         }
     };
     let signed = |rng: &mut Rng| {
@@ -799,7 +799,7 @@ fn any_layers(rng: &mut Rng, count: usize) -> Vec<f64> {
             1 => rng.from_to(1, 6) as f64 * 10.0,
             2 => near(rng, base),
             3 => base,
-            4 => 10f64.powf(rng.between(-320.0, 308.0)) * if rng.one_in(2) { -1.0 } else { 1.0 },
+            4 => rng.sized(-320.0, 308.0) * if rng.one_in(2) { -1.0 } else { 1.0 },
             5 => {
                 if rng.one_in(4) {
                     special(rng)
