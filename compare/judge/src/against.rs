@@ -71,7 +71,10 @@ pub fn run(candidate: &mut dyn Candidate, shape: &str, from: u64, count: u64) ->
             }
             if last.elapsed().as_secs() >= 5 {
                 last = Instant::now();
-                eprintln!("  seed {seed} of {}: {cases} cases, {lines} lines agree", from + count);
+                eprintln!(
+                    "  seed {seed} of {}: {cases} cases, {lines} lines agree",
+                    from + count
+                );
             }
         }
     }

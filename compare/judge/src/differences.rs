@@ -1,6 +1,6 @@
 //! Where the Rust and document 01 part: the smallest inputs, run on the Rust without 01's checks.
 
-use crate::job::Step;
+use crate::job::{Step, MOST_HEATERS};
 use crate::oracle::{check_heater, check_step, check_tank, Judged, Outcome};
 use original::probe::{Failed, Heater, Making, SetPoints, State, Tank};
 
@@ -128,9 +128,13 @@ pub fn all() -> Vec<Difference> {
         differ("initial temperature not-a-number in one layer", 4, GoesOn)
             .tank(|m| m.initial = f64::NAN)
             .heater(heater(1.0, 0.0), both(50.0, 60.0)),
-        differ("initial temperature not-a-number in two layers, a heater", 4, MixesOn)
-            .tank(|m| (m.layers, m.initial) = (2, f64::NAN))
-            .heater(heater(1.0, 0.0), both(50.0, 60.0)),
+        differ(
+            "initial temperature not-a-number in two layers, a heater",
+            4,
+            MixesOn,
+        )
+        .tank(|m| (m.layers, m.initial) = (2, f64::NAN))
+        .heater(heater(1.0, 0.0), both(50.0, 60.0)),
         differ("a stored layer not-a-number, no heater", 4, GoesOn)
             .tank(|m| m.layers = 2)
             .put(&[20.0, nan]),
@@ -141,8 +145,7 @@ pub fn all() -> Vec<Difference> {
         differ("rated power not-a-number, on, two layers", 5, MixesOn)
             .tank(|m| m.layers = 2)
             .heater(heater(nan, 0.0), both(50.0, 60.0)),
-        differ("rated power infinite, on", 5, GoesOn)
-            .heater(heater(inf, 0.0), both(50.0, 60.0)),
+        differ("rated power infinite, on", 5, GoesOn).heater(heater(inf, 0.0), both(50.0, 60.0)),
         differ("position 1", 5, Panics).heater(heater(1.0, 1.0), UNSET),
         differ("position -0.5, two layers, on", 5, GoesOn)
             .tank(|m| (m.layers, m.volume) = (2, 32.0))
@@ -216,13 +219,11 @@ fn number_of_01(case: &Difference) -> u8 {
         Some(state) => &state.layers[..],
         None => &initial,
     };
-    let mut number = check_tank(&case.making, temperatures);
-    if number == 0 && case.heaters.len() > 8 {
-        number = 2;
-    }
-    if case.heaters.len() > 8 && number > 2 {
-        number = 2;
-    }
+    let mut number = match check_tank(&case.making, temperatures) {
+        1 => 1,
+        _ if case.heaters.len() > MOST_HEATERS => 2,
+        number => number,
+    };
     for heater in &case.heaters {
         if number == 0 {
             number = check_heater(heater);
@@ -261,7 +262,11 @@ pub fn run() -> bool {
             Ok(stepped) => {
                 let mut words = format!(
                     "layers {:?} energy {:?} used {:?} average {:?} recoverable {:?}",
-                    stepped.state.layers, stepped.energy, stepped.volume_used, stepped.average, stepped.recoverable
+                    stepped.state.layers,
+                    stepped.energy,
+                    stepped.volume_used,
+                    stepped.average,
+                    stepped.recoverable
                 );
                 for turn in &stepped.turns {
                     words.push_str(&format!(
@@ -288,6 +293,9 @@ fn half_stepped() -> bool {
     let before = tank.state();
     let erred = tank.step(12.0, &[4.0], &[(Some(50.0), None)]).is_err();
     let after = tank.state();
-    println!("an error after a draw of 4: layers {:?}, before {:?}", after.layers, before.layers);
+    println!(
+        "an error after a draw of 4: layers {:?}, before {:?}",
+        after.layers, before.layers
+    );
     erred && before != after
 }

@@ -36,7 +36,12 @@ pub struct Mixing {
 
 fn entry(name: String, put: bool, job: Vec<u8>) -> Entry {
     let lines = oracle::answer(&job, put, false);
-    Entry { name, put, job, lines }
+    Entry {
+        name,
+        put,
+        job,
+        lines,
+    }
 }
 
 fn mixing(name: String, volume: f64, layers: Vec<f64>) -> Mixing {
@@ -89,7 +94,11 @@ pub fn all(folder: &Path, each: u64) -> (Vec<Entry>, Vec<Mixing>, Vec<Entry>) {
             if taken == each {
                 break;
             }
-            let one = entry(format!("{shape} {seed}"), *shape == shapes::PUT, shapes::job(shape, seed));
+            let one = entry(
+                format!("{shape} {seed}"),
+                *shape == shapes::PUT,
+                shapes::job(shape, seed),
+            );
             if one.job.len() + words::text(&one.lines).len() <= MOST_ENTRY {
                 jobs.push(one);
                 taken += 1;
@@ -153,7 +162,11 @@ impl Parts {
     /// Adds an entry; its file and number.
     fn push(&mut self, bytes: &[u8]) -> (String, usize) {
         assert!(bytes.len() <= MOST_FILE);
-        if self.files.last().is_none_or(|file| file.len() + bytes.len() > MOST_FILE) {
+        if self
+            .files
+            .last()
+            .is_none_or(|file| file.len() + bytes.len() > MOST_FILE)
+        {
             self.files.push(Vec::new());
             self.counts.push(0);
         }
@@ -165,7 +178,8 @@ impl Parts {
 
     fn save(&self, folder: &Path) {
         for (at, bytes) in self.files.iter().enumerate() {
-            fs::write(folder.join(format!("{}-{at:02}.bin", self.stem)), bytes).expect("the folder takes a file");
+            fs::write(folder.join(format!("{}-{at:02}.bin", self.stem)), bytes)
+                .expect("the folder takes a file");
         }
     }
 }
@@ -178,7 +192,11 @@ pub fn mix_bytes(volume: f64, layers: &[f64], line: &str) -> Vec<u8> {
     }
     let words: Vec<&str> = line.split(' ').collect();
     let number: u16 = words[1].parse().expect("the judge answers every mixing");
-    let rounds: u16 = if number == 0 { words[2].parse().expect("rounds") } else { 0 };
+    let rounds: u16 = if number == 0 {
+        words[2].parse().expect("rounds")
+    } else {
+        0
+    };
     out.extend_from_slice(&number.to_le_bytes());
     out.extend_from_slice(&rounds.to_le_bytes());
     for (at, layer) in layers.iter().enumerate() {
@@ -205,12 +223,18 @@ pub fn write(folder: &Path, each: u64, about: &str) {
     for line in about.lines() {
         index.push_str(&format!("# {line}\n"));
     }
-    index.push_str("# Columns: file, entry in it, lines of the answer, what they rest on, name (shape and seed).\n");
+    index.push_str(
+        "# Columns: file, entry in it, lines of the answer, what they rest on, name (shape and seed).\n",
+    );
     let (mut plain, mut put) = (Parts::new("jobs"), Parts::new("put"));
     let mut numbers = std::collections::BTreeMap::new();
     for one in &jobs {
         let text = words::text(&one.lines);
-        assert!(!text.contains("no answer") && !text.contains("no tank"), "{}: the Rust has no answer", one.name);
+        assert!(
+            !text.contains("no answer") && !text.contains("no tank"),
+            "{}: the Rust has no answer",
+            one.name
+        );
         for line in &one.lines {
             let words: Vec<&str> = line.text.split(' ').collect();
             match words[0] {
@@ -224,7 +248,11 @@ pub fn write(folder: &Path, each: u64, about: &str) {
         framed(text.as_bytes(), &mut bytes);
         let (file, at) = if one.put { &mut put } else { &mut plain }.push(&bytes);
         let lines = one.lines.len();
-        index.push_str(&format!("{file} {at} {lines} [{}] {}\n", marks(&one.lines), one.name));
+        index.push_str(&format!(
+            "{file} {at} {lines} [{}] {}\n",
+            marks(&one.lines),
+            one.name
+        ));
     }
     plain.save(folder);
     put.save(folder);
@@ -239,12 +267,22 @@ pub fn write(folder: &Path, each: u64, about: &str) {
     parts.save(folder);
     for (at, one) in long.iter().enumerate() {
         fs::write(folder.join(format!("long-{at}.job")), &one.job).expect("the folder takes a file");
-        fs::write(folder.join(format!("long-{at}.txt")), words::text(&one.lines)).expect("the folder takes a file");
+        fs::write(folder.join(format!("long-{at}.txt")), words::text(&one.lines))
+            .expect("the folder takes a file");
         let lines = one.lines.len();
-        index.push_str(&format!("long-{at}.job 0 {lines} [{}] {}\n", marks(&one.lines), one.name));
+        index.push_str(&format!(
+            "long-{at}.job 0 {lines} [{}] {}\n",
+            marks(&one.lines),
+            one.name
+        ));
     }
     fs::write(folder.join("index.txt"), index).expect("the folder takes a file");
-    println!("{} jobs, {} mixings, {} long jobs", jobs.len(), mixes.len(), long.len());
+    println!(
+        "{} jobs, {} mixings, {} long jobs",
+        jobs.len(),
+        mixes.len(),
+        long.len()
+    );
     for (number, count) in numbers {
         println!("  {number}: {count}");
     }
@@ -321,7 +359,11 @@ pub fn stored(folder: &Path) -> Vec<Stored> {
             } else {
                 let job = framed_part(&mut rest).to_vec();
                 let expected = String::from_utf8(framed_part(&mut rest).to_vec()).expect("text");
-                let kind = if name.starts_with("put") { Kind::Put(job) } else { Kind::Job(job) };
+                let kind = if name.starts_with("put") {
+                    Kind::Put(job)
+                } else {
+                    Kind::Job(job)
+                };
                 (kind, expected)
             };
             all.push(Stored {
@@ -339,7 +381,8 @@ pub fn stored(folder: &Path) -> Vec<Stored> {
 /// answers (a 4-byte length and a job; a 2-byte count, the layer volume and the layers), and `jobs.stdout` and so
 /// on what is to be printed: for each case a line `J` or `M` and its index, then its lines.
 pub fn export(folder: &Path, to: &Path) {
-    let mut files: [(&str, Vec<u8>, String, usize); 3] = ["jobs", "put", "mix"].map(|name| (name, Vec::new(), String::new(), 0));
+    let mut files: [(&str, Vec<u8>, String, usize); 3] =
+        ["jobs", "put", "mix"].map(|name| (name, Vec::new(), String::new(), 0));
     for one in stored(folder) {
         if one.name.starts_with("long") {
             continue;
@@ -357,7 +400,9 @@ pub fn export(folder: &Path, to: &Path) {
             Kind::Mix(volume, layers) => {
                 bytes.extend_from_slice(&(layers.len() as u16).to_le_bytes());
                 bytes.extend_from_slice(&volume.to_le_bytes());
-                layers.iter().for_each(|layer| bytes.extend_from_slice(&layer.to_le_bytes()));
+                layers
+                    .iter()
+                    .for_each(|layer| bytes.extend_from_slice(&layer.to_le_bytes()));
                 (2, 'M')
             }
         };
@@ -369,7 +414,11 @@ pub fn export(folder: &Path, to: &Path) {
     for (name, stdin, stdout, count) in &files {
         fs::write(to.join(format!("{name}.stdin")), stdin).expect("the folder takes a file");
         fs::write(to.join(format!("{name}.stdout")), stdout).expect("the folder takes a file");
-        println!("{name}: {count} cases, {} bytes in, {} bytes out", stdin.len(), stdout.len());
+        println!(
+            "{name}: {count} cases, {} bytes in, {} bytes out",
+            stdin.len(),
+            stdout.len()
+        );
     }
 }
 
@@ -425,12 +474,18 @@ pub fn self_test(folder: &Path) -> bool {
     for one in &list {
         for in_parts in [false, true] {
             if again(one, in_parts) != one.expected {
-                println!("{}: the stored answer is not the judge's (in parts: {in_parts})", one.name);
+                println!(
+                    "{}: the stored answer is not the judge's (in parts: {in_parts})",
+                    one.name
+                );
                 fine = false;
             }
         }
     }
-    println!("{} stored answers are the judge's, whole and in parts: {fine}", list.len());
+    println!(
+        "{} stored answers are the judge's, whole and in parts: {fine}",
+        list.len()
+    );
 
     let mut figures = 0;
     for case in figures::jobs() {
@@ -444,7 +499,10 @@ pub fn self_test(folder: &Path) -> bool {
             };
             figures += 1;
             if got != Some(&*expected) {
-                println!("{}: line {line} part {part}: 01 says {expected}, the judge {got:?}", case.name);
+                println!(
+                    "{}: line {line} part {part}: 01 says {expected}, the judge {got:?}",
+                    case.name
+                );
                 fine = false;
             }
         }
@@ -471,10 +529,16 @@ pub fn self_test(folder: &Path) -> bool {
         (recorder::PLAIN_SUM, "a plain sum for Sum2"),
         (recorder::ABSOLUTE_TOLERANCE, "an absolute tolerance alone"),
         (recorder::COLD_IS_FEED, "the feed for the cold temperature"),
-        (recorder::OFF_BY_LAST_LAYERS, "switching off by the step's last layers"),
+        (
+            recorder::OFF_BY_LAST_LAYERS,
+            "switching off by the step's last layers",
+        ),
     ] {
         recorder::set_wrong(kind);
-        let changed = list.iter().filter(|one| again(one, false) != one.expected).count();
+        let changed = list
+            .iter()
+            .filter(|one| again(one, false) != one.expected)
+            .count();
         recorder::set_wrong(recorder::RIGHT);
         println!("{name} changes {changed} of {} stored answers", list.len());
         fine &= changed > 0;

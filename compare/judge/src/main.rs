@@ -48,7 +48,11 @@ fn parts(from: u64, count: u64) -> bool {
 
 fn speed(count: u64) {
     for shape in shapes::JOB_SHAPES.iter().chain(&[shapes::LONG, shapes::PUT]) {
-        let count = if *shape == shapes::LONG { count / 50 + 1 } else { count };
+        let count = if *shape == shapes::LONG {
+            count / 50 + 1
+        } else {
+            count
+        };
         let jobs: Vec<Vec<u8>> = (0..count).map(|seed| shapes::job(shape, seed)).collect();
         let start = std::time::Instant::now();
         let steps: usize = jobs
@@ -92,19 +96,31 @@ fn rounds(count: u64) {
             most[layers] = most[layers].max(rounds);
         }
     }
-    println!("most rounds for 2, 3, ... {} layers: {:?}", job::MOST_LAYERS, &most[2..]);
+    println!(
+        "most rounds for 2, 3, ... {} layers: {:?}",
+        job::MOST_LAYERS,
+        &most[2..]
+    );
 }
 
 fn main() {
     original::probe::quiet_panics();
     let args: Vec<String> = std::env::args().skip(1).collect();
     let words: Vec<&str> = args.iter().map(|word| word.as_str()).collect();
-    let number = |word: &str| -> u64 { word.parse().unwrap_or_else(|_| stop(&format!("{word} is no number"))) };
-    let double = |word: &str| -> f64 { word.parse().unwrap_or_else(|_| stop(&format!("{word} is no number"))) };
+    let number = |word: &str| -> u64 {
+        word.parse()
+            .unwrap_or_else(|_| stop(&format!("{word} is no number")))
+    };
+    let double = |word: &str| -> f64 {
+        word.parse()
+            .unwrap_or_else(|_| stop(&format!("{word} is no number")))
+    };
     let fine = match words[..] {
         ["answer", ref put @ ..] if put.is_empty() || *put == ["put"] => {
             let mut bytes = Vec::new();
-            std::io::stdin().read_to_end(&mut bytes).expect("standard input can be read");
+            std::io::stdin()
+                .read_to_end(&mut bytes)
+                .expect("standard input can be read");
             print!("{}", words::text(&oracle::answer(&bytes, !put.is_empty(), false)));
             true
         }
@@ -115,7 +131,9 @@ fn main() {
         }
         ["make", shape, seed] => {
             let bytes = shapes::job(shape, number(seed));
-            std::io::stdout().write_all(&bytes).expect("standard output takes the job");
+            std::io::stdout()
+                .write_all(&bytes)
+                .expect("standard output takes the job");
             true
         }
         ["show", shape, seed] => {
@@ -132,7 +150,9 @@ fn main() {
         }
         ["list", "write", folder, each] => {
             let mut about = String::new();
-            std::io::stdin().read_to_string(&mut about).expect("standard input is text");
+            std::io::stdin()
+                .read_to_string(&mut about)
+                .expect("standard input is text");
             list::write(folder.as_ref(), number(each), &about);
             true
         }

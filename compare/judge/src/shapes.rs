@@ -6,8 +6,20 @@ use original::probe::{Heater, Making, SetPoints};
 
 /// The shapes of jobs. `long` is apart: its jobs pass 65,536 bytes.
 pub const JOB_SHAPES: &[&str] = &[
-    "day", "full", "edges", "special", "bits", "exact", "hot-feed", "near", "overflow", "damaged", "tiny",
-    "hysteresis", "zeros", "range",
+    "day",
+    "full",
+    "edges",
+    "special",
+    "bits",
+    "exact",
+    "hot-feed",
+    "near",
+    "overflow",
+    "damaged",
+    "tiny",
+    "hysteresis",
+    "zeros",
+    "range",
 ];
 
 pub const LONG: &str = "long";
@@ -91,9 +103,21 @@ fn day_tank(rng: &mut Rng, layers: usize) -> Making {
         } else {
             rng.between(5.0, 75.0)
         },
-        density: if rng.one_in(3) { rng.between(0.95, 1.02) } else { 1.0 },
-        specific_heat: if rng.one_in(3) { rng.between(0.0009, 0.0013) } else { WATER },
-        ambient: if rng.one_in(2) { 16.0 } else { rng.between(-5.0, 30.0) },
+        density: if rng.one_in(3) {
+            rng.between(0.95, 1.02)
+        } else {
+            1.0
+        },
+        specific_heat: if rng.one_in(3) {
+            rng.between(0.0009, 0.0013)
+        } else {
+            WATER
+        },
+        ambient: if rng.one_in(2) {
+            16.0
+        } else {
+            rng.between(-5.0, 30.0)
+        },
         step: *rng.pick(&[1.0, 0.5, 0.25, 1.0 / 6.0, 0.1]),
     }
 }
@@ -105,7 +129,11 @@ fn day_heater(rng: &mut Rng) -> Heater {
         rng.unit()
     };
     Heater {
-        rated: if rng.one_in(10) { 0.0 } else { rng.between(0.5, 9.0) },
+        rated: if rng.one_in(10) {
+            0.0
+        } else {
+            rng.between(0.5, 9.0)
+        },
         position,
         thermostat: match rng.below(3) {
             0 => None,
@@ -288,7 +316,11 @@ fn exact(rng: &mut Rng, writer: &mut Writer) {
         let heater = Heater {
             rated: *rng.pick(&[0.0, 16.0, 160.0, 320.0, 80.0]),
             position: rng.below(4) as f64 / 4.0,
-            thermostat: if rng.one_in(2) { None } else { Some(rng.below(8) as f64 / 8.0) },
+            thermostat: if rng.one_in(2) {
+                None
+            } else {
+                Some(rng.below(8) as f64 / 8.0)
+            },
         };
         writer.heater(&heater, 0.0);
     }
@@ -611,7 +643,13 @@ fn range(rng: &mut Rng, writer: &mut Writer) {
     for _ in 0..rng.from_to(1, 3) {
         let feed = signed(rng);
         let volumes = (0..rng.below(3))
-            .map(|_| if rng.one_in(2) { size(rng) } else { tank.volume * rng.between(0.0, 1.5) })
+            .map(|_| {
+                if rng.one_in(2) {
+                    size(rng)
+                } else {
+                    tank.volume * rng.between(0.0, 1.5)
+                }
+            })
             .map(|volume| volume.min(f64::MAX))
             .collect();
         let set_points = (0..heaters)
@@ -663,7 +701,11 @@ fn damaged(rng: &mut Rng, writer: &mut Writer) {
                 // Another length.
                 let by = *rng.pick(&[1u32, 2, 8, 17, 256, 65536, 1 << 31]);
                 let old = u32::from_le_bytes(bytes[at..at + 4].try_into().unwrap());
-                let new = if rng.one_in(2) { old.wrapping_add(by) } else { old.wrapping_sub(by) };
+                let new = if rng.one_in(2) {
+                    old.wrapping_add(by)
+                } else {
+                    old.wrapping_sub(by)
+                };
                 bytes[at..at + 4].copy_from_slice(&new.to_le_bytes());
             }
             3 if at + 6 <= bytes.len() => {
@@ -826,7 +868,11 @@ fn any_layers(rng: &mut Rng, count: usize) -> Vec<f64> {
 }
 
 fn put(rng: &mut Rng, writer: &mut Writer) {
-    let layers = if rng.one_in(2) { rng.from_to(1, 8) } else { rng.from_to(1, 32) } as usize;
+    let layers = if rng.one_in(2) {
+        rng.from_to(1, 8)
+    } else {
+        rng.from_to(1, 32)
+    } as usize;
     let heaters = rng.from_to(0, 8).min(rng.from_to(0, 8)) as usize;
     let tank = day_tank(rng, layers);
     writer.tank(&tank);
@@ -838,7 +884,11 @@ fn put(rng: &mut Rng, writer: &mut Writer) {
         let flags: Vec<bool> = (0..heaters).map(|_| rng.one_in(2)).collect();
         writer.put(&temperatures, &flags);
         for _ in 0..rng.from_to(1, 3) {
-            let feed = if rng.one_in(3) { rng.between(20.0, 90.0) } else { 10.0 };
+            let feed = if rng.one_in(3) {
+                rng.between(20.0, 90.0)
+            } else {
+                10.0
+            };
             let mut step = day_step(rng, tank.volume, heaters, feed);
             for (lower, upper) in &mut step.set_points {
                 if rng.one_in(4) {

@@ -58,14 +58,24 @@ const STEP_PARTS: &[&str] = &[
     "average draw-off temperature",
     "recoverable losses",
 ];
-const HEATER_PARTS: &[&str] = &["kind", "flag", "adjusted input", "energy supplied", "losses", "rounds"];
+const HEATER_PARTS: &[&str] = &[
+    "kind",
+    "flag",
+    "adjusted input",
+    "energy supplied",
+    "losses",
+    "rounds",
+];
 
 fn part_name(kind: &str, part: usize) -> String {
     match kind {
         "S" => STEP_PARTS.get(part).unwrap_or(&"a part too many").to_string(),
         "H" => HEATER_PARTS.get(part).unwrap_or(&"a part too many").to_string(),
         "L" if part > 0 => format!("layer {}", part - 1),
-        "E" => ["kind", "number", "offset"].get(part).unwrap_or(&"a part too many").to_string(),
+        "E" => ["kind", "number", "offset"]
+            .get(part)
+            .unwrap_or(&"a part too many")
+            .to_string(),
         "M" if part == 1 => "number".to_string(),
         "M" if part == 2 => "rounds".to_string(),
         "M" if part > 2 => format!("layer {}", part - 3),
@@ -120,7 +130,10 @@ pub fn difference(expected: &[Line], got: &str) -> Option<String> {
                 ));
             }
         }
-        return Some(format!("line {at}{place}: expected {:?}, got {:?}", line.text, other));
+        return Some(format!(
+            "line {at}{place}: expected {:?}, got {:?}",
+            line.text, other
+        ));
     }
     got.next()
         .map(|more| format!("after the last line the candidate goes on: {more:?}"))

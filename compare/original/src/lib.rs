@@ -1,7 +1,13 @@
 //! The Rust, unchanged: files are included from the folder named by HUSZMAGO_RUST_SRC when this crate is
 //! compiled. Project files that are not there are the stubs below, which hold what the included files name.
 
-#![allow(dead_code, unused_imports, unused_variables, unexpected_cfgs, private_interfaces)]
+#![allow(
+    dead_code,
+    unused_imports,
+    unused_variables,
+    unexpected_cfgs,
+    private_interfaces
+)]
 
 macro_rules! unchanged {
     ($path:literal) => {

@@ -237,10 +237,22 @@ impl Tank {
         let volume_used = number(&row[6]);
         if let Some(last) = seen.turns.last() {
             let at = 7 + layers + 2 + layers + layers + 1 + 2 * layers;
-            assert_eq!(number(&row[at]).to_bits(), last.adjusted.to_bits(), "adjusted, seen twice");
-            assert_eq!(number(&row[at + 1]).to_bits(), last.losses.to_bits(), "losses, seen twice");
+            assert_eq!(
+                number(&row[at]).to_bits(),
+                last.adjusted.to_bits(),
+                "adjusted, seen twice"
+            );
+            assert_eq!(
+                number(&row[at + 1]).to_bits(),
+                last.losses.to_bits(),
+                "losses, seen twice"
+            );
         }
-        assert_eq!(seen.turns.len(), self.tank.heat_source_data.len(), "a turn for each heater");
+        assert_eq!(
+            seen.turns.len(),
+            self.tank.heat_source_data.len(),
+            "a turn for each heater"
+        );
         Ok(Stepped {
             energy,
             volume_used,

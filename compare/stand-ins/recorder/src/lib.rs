@@ -145,7 +145,7 @@ fn rounds(sums: u64) -> u64 {
     if each == 0 {
         return 1;
     }
-    assert!(pairs % each == 0, "a round looks at every pair");
+    assert_eq!(pairs % each, 0, "a round looks at every pair");
     pairs / each
 }
 
