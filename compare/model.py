@@ -1,5 +1,7 @@
 #!/usr/bin/env python3
-"""Document 01 in Python, written from its words alone, as a second opinion beside the Rust.
+"""Document 01 in Python, written from its words, as a second opinion beside the Rust.
+
+In one place, marked, it follows the Rust where those words leave the sign of a zero open.
 
     model.py            reads a job from standard input and prints its lines
     model.py serve      answers many requests, for `judge against`

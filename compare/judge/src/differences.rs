@@ -8,10 +8,12 @@ use original::probe::{Failed, Heater, Making, SetPoints, State, Tank};
 pub enum Rust {
     Panics,
     Errs,
-    /// Still mixing after the limit of 01, and after twice the limit.
+    /// Still not in order `PATIENCE` rounds past the limit of 01.
     MixesOn,
     GoesOn,
 }
+
+const PATIENCE: u64 = 1_000_000;
 
 pub struct Difference {
     pub name: &'static str,
@@ -249,6 +251,7 @@ fn number_of_01(case: &Difference) -> u8 {
 pub fn run() -> bool {
     let mut fine = true;
     for case in all() {
+        recorder::set_patience(PATIENCE);
         let outcome = Tank::new(&case.making, &case.heaters).and_then(|tank| {
             if let Some(state) = &case.put {
                 tank.put(state);
@@ -258,7 +261,10 @@ pub fn run() -> bool {
         let (rust, words) = match &outcome {
             Err(Failed::Panicked(words)) => (Rust::Panics, words.clone()),
             Err(Failed::Erred(words)) => (Rust::Errs, words.clone()),
-            Err(Failed::MixedTooLong) => (Rust::MixesOn, "no order after the limit of rounds".to_string()),
+            Err(Failed::MixedTooLong) => (
+                Rust::MixesOn,
+                format!("no order {PATIENCE} rounds past the limit"),
+            ),
             Ok(stepped) => {
                 let mut words = format!(
                     "layers {:?} energy {:?} used {:?} average {:?} recoverable {:?}",
@@ -278,6 +284,7 @@ pub fn run() -> bool {
                 (Rust::GoesOn, words)
             }
         };
+        recorder::set_patience(1);
         let number = number_of_01(&case);
         let as_written = rust == case.rust && number == case.number;
         fine &= as_written;

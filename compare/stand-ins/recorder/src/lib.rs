@@ -15,7 +15,7 @@
 //! no. A round looks at `layers - 1` pairs, so pairs / (layers - 1) are the rounds.
 
 use std::cell::{Cell, RefCell};
-use std::sync::atomic::{AtomicU8, Ordering};
+use std::sync::atomic::{AtomicU64, AtomicU8, Ordering};
 
 /// The payload of the panic that ends a mixing well past its limit.
 pub struct MixedTooLong;
@@ -149,11 +149,18 @@ fn rounds(sums: u64) -> u64 {
     pairs / each
 }
 
-/// Ends a mixing that is certainly past its limit. Exact counting is left to `rounds`.
+/// How many rounds beyond the limit a mixing may run before it is ended. Exact counting is left to `rounds`.
+static PATIENCE: AtomicU64 = AtomicU64::new(1);
+
+pub fn set_patience(rounds: u64) {
+    PATIENCE.store(rounds, Ordering::Relaxed);
+}
+
+/// Ends a mixing that is certainly past its limit.
 fn bound() {
     let each = LAYERS.get().saturating_sub(1) as u64;
     let pairs = APART.get() + SUMS.get() / 2;
-    if pairs > (most_rounds(LAYERS.get()) + 1) * each + 2 {
+    if pairs > (most_rounds(LAYERS.get()) + PATIENCE.load(Ordering::Relaxed)) * each + 2 {
         std::panic::panic_any(MixedTooLong);
     }
 }
