@@ -1,0 +1,117 @@
+//! Whatever is held against the Rust.
+//!
+//! Three ways to run one: a server (one process, many requests), a program (one process for each job, as the
+//! program `job` is run), and anything else that implements `Candidate`, such as a library linked in.
+
+use std::io::{Read, Write};
+use std::process::{Child, Command, Stdio};
+
+/// Each answer is the lines, every one ended by a newline; `None` where the candidate has no such call.
+pub trait Candidate {
+    fn job(&mut self, bytes: &[u8]) -> Option<String>;
+
+    /// A job with records that put in layers and flags.
+    fn put(&mut self, bytes: &[u8]) -> Option<String> {
+        let _ = bytes;
+        None
+    }
+
+    /// A mixing: `M 0`, rounds and layers, or `M` and the number of the refusal.
+    fn mix(&mut self, volume: f64, layers: &[f64]) -> Option<String> {
+        let _ = (volume, layers);
+        None
+    }
+}
+
+fn start(words: &[&str]) -> Child {
+    Command::new(words[0])
+        .args(&words[1..])
+        .stdin(Stdio::piped())
+        .stdout(Stdio::piped())
+        .spawn()
+        .unwrap_or_else(|error| panic!("{}: {error}", words[0]))
+}
+
+/// A process that answers one request after another: a byte (J, P or M), a 4-byte length and the bytes; back
+/// come a 4-byte length and the lines.
+pub struct Server {
+    child: Child,
+}
+
+impl Server {
+    pub fn new(words: &[&str]) -> Self {
+        Server { child: start(words) }
+    }
+
+    fn ask(&mut self, kind: u8, bytes: &[u8]) -> Option<String> {
+        let to = self.child.stdin.as_mut().expect("it is piped");
+        let mut request = vec![kind];
+        request.extend_from_slice(&(bytes.len() as u32).to_le_bytes());
+        request.extend_from_slice(bytes);
+        to.write_all(&request).expect("the server takes the request");
+        to.flush().expect("the server takes the request");
+        let from = self.child.stdout.as_mut().expect("it is piped");
+        let mut length = [0; 4];
+        from.read_exact(&mut length).expect("the server answers");
+        let mut text = vec![0; u32::from_le_bytes(length) as usize];
+        from.read_exact(&mut text).expect("the server answers");
+        Some(String::from_utf8_lossy(&text).into_owned())
+    }
+}
+
+impl Candidate for Server {
+    fn job(&mut self, bytes: &[u8]) -> Option<String> {
+        self.ask(b'J', bytes)
+    }
+
+    fn put(&mut self, bytes: &[u8]) -> Option<String> {
+        self.ask(b'P', bytes)
+    }
+
+    fn mix(&mut self, volume: f64, layers: &[f64]) -> Option<String> {
+        let mut bytes = volume.to_le_bytes().to_vec();
+        for layer in layers {
+            bytes.extend_from_slice(&layer.to_le_bytes());
+        }
+        self.ask(b'M', &bytes)
+    }
+}
+
+impl Drop for Server {
+    fn drop(&mut self) {
+        drop(self.child.stdin.take());
+        let _ = self.child.wait();
+    }
+}
+
+/// A program started for each job, which reads it from standard input and prints the lines.
+pub struct Program {
+    words: Vec<String>,
+}
+
+impl Program {
+    pub fn new(words: &[&str]) -> Self {
+        Program {
+            words: words.iter().map(|word| word.to_string()).collect(),
+        }
+    }
+}
+
+impl Candidate for Program {
+    fn job(&mut self, bytes: &[u8]) -> Option<String> {
+        let words: Vec<&str> = self.words.iter().map(|word| word.as_str()).collect();
+        let mut child = start(&words);
+        let mut to = child.stdin.take().expect("it is piped");
+        let bytes = bytes.to_vec();
+        // A program may stop reading at 65,536 bytes: a broken pipe is no fault.
+        let writer = std::thread::spawn(move || {
+            let _ = to.write_all(&bytes);
+        });
+        let mut text = Vec::new();
+        let mut from = child.stdout.take().expect("it is piped");
+        from.read_to_end(&mut text).expect("the program prints");
+        writer.join().expect("the writer ends");
+        child.wait().expect("the program ends");
+        Some(String::from_utf8_lossy(&text).into_owned())
+    }
+}

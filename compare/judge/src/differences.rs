@@ -1,0 +1,308 @@
+//! Where the Rust and document 01 part: the smallest inputs, run on the Rust without 01's checks.
+
+use crate::job::{Step, MOST_HEATERS};
+use crate::oracle::{check_heater, check_step, check_tank, Judged, Outcome};
+use original::probe::{Failed, Heater, Making, SetPoints, State, Tank};
+
+#[derive(Clone, Copy, Debug, PartialEq)]
+pub enum Rust {
+    Panics,
+    Errs,
+    /// Still not in order `PATIENCE` rounds past the limit of 01.
+    MixesOn,
+    GoesOn,
+}
+
+const PATIENCE: u64 = 1_000_000;
+
+pub struct Difference {
+    pub name: &'static str,
+    pub rust: Rust,
+    pub number: u8,
+    making: Making,
+    heaters: Vec<Heater>,
+    put: Option<State>,
+    step: Step,
+}
+
+fn plain(layers: usize, initial: f64) -> Making {
+    Making {
+        layers,
+        volume: 16.0 * layers as f64,
+        standby: 0.0,
+        initial,
+        density: 1.0,
+        specific_heat: 1.0,
+        ambient: 20.0,
+        step: 1.0,
+    }
+}
+
+fn heater(rated: f64, position: f64) -> Heater {
+    Heater {
+        rated,
+        position,
+        thermostat: None,
+    }
+}
+
+const UNSET: SetPoints = (None, None);
+
+struct Maker(Difference);
+
+fn differ(name: &'static str, number: u8, rust: Rust) -> Maker {
+    Maker(Difference {
+        name,
+        rust,
+        number,
+        making: plain(1, 20.0),
+        heaters: Vec::new(),
+        put: None,
+        step: Step {
+            feed: 12.0,
+            volumes: Vec::new(),
+            set_points: Vec::new(),
+        },
+    })
+}
+
+impl Maker {
+    fn tank(mut self, change: impl FnOnce(&mut Making)) -> Self {
+        change(&mut self.0.making);
+        self
+    }
+
+    fn heater(mut self, heater: Heater, set: SetPoints) -> Self {
+        self.0.heaters.push(heater);
+        self.0.step.set_points.push(set);
+        self
+    }
+
+    fn draws(mut self, feed: f64, volumes: &[f64]) -> Self {
+        self.0.step.feed = feed;
+        self.0.step.volumes = volumes.to_vec();
+        self
+    }
+
+    fn put(mut self, layers: &[f64]) -> Self {
+        let flags = vec![false; self.0.heaters.len()];
+        self.0.put = Some(State {
+            layers: layers.to_vec(),
+            flags,
+        });
+        self
+    }
+}
+
+pub fn all() -> Vec<Difference> {
+    use Rust::*;
+    let nan = f64::NAN;
+    let inf = f64::INFINITY;
+    let both = |lower: f64, upper: f64| (Some(lower), Some(upper));
+    let nine = |maker: Maker| (0..9).fold(maker, |maker, _| maker.heater(heater(1.0, 0.0), UNSET));
+    let made = vec![
+        differ("no layers", 1, Errs).tank(|m| (m.layers, m.volume) = (0, 16.0)),
+        differ("no layers, a heater without set points", 1, Errs)
+            .tank(|m| (m.layers, m.volume) = (0, 16.0))
+            .heater(heater(1.0, 0.0), UNSET),
+        differ("33 layers", 1, GoesOn).tank(|m| m.layers = 33),
+        nine(differ("nine heaters", 2, GoesOn)),
+        differ("volume 0, no heater", 3, GoesOn).tank(|m| m.volume = 0.0),
+        differ("volume 0 in one layer, a heater", 3, GoesOn)
+            .tank(|m| m.volume = 0.0)
+            .heater(heater(1.0, 0.0), UNSET),
+        differ("volume 0 in two layers, a heater", 3, MixesOn)
+            .tank(|m| (m.layers, m.volume) = (2, 0.0))
+            .heater(heater(1.0, 0.0), UNSET),
+        differ("volume not-a-number", 3, GoesOn).tank(|m| m.volume = f64::NAN),
+        differ("density 0 in two layers, a heater", 3, MixesOn)
+            .tank(|m| (m.layers, m.density) = (2, 0.0))
+            .heater(heater(1.0, 0.0), UNSET),
+        differ("specific heat -1", 3, GoesOn)
+            .tank(|m| m.specific_heat = -1.0)
+            .heater(heater(1.0, 0.0), UNSET),
+        differ("step length 0", 3, GoesOn)
+            .tank(|m| m.step = 0.0)
+            .heater(heater(1.0, 0.0), both(50.0, 60.0)),
+        differ("standby loss -1, ambient 0", 4, GoesOn)
+            .tank(|m| (m.standby, m.ambient) = (-1.0, 0.0))
+            .heater(heater(1.0, 0.0), UNSET),
+        differ("initial temperature not-a-number in one layer", 4, GoesOn)
+            .tank(|m| m.initial = f64::NAN)
+            .heater(heater(1.0, 0.0), both(50.0, 60.0)),
+        differ(
+            "initial temperature not-a-number in two layers, a heater",
+            4,
+            MixesOn,
+        )
+        .tank(|m| (m.layers, m.initial) = (2, f64::NAN))
+        .heater(heater(1.0, 0.0), both(50.0, 60.0)),
+        differ("a stored layer not-a-number, no heater", 4, GoesOn)
+            .tank(|m| m.layers = 2)
+            .put(&[20.0, nan]),
+        differ("ambient temperature infinite", 4, GoesOn)
+            .tank(|m| m.ambient = f64::INFINITY)
+            .heater(heater(1.0, 0.0), UNSET),
+        differ("rated power -1, on", 5, GoesOn).heater(heater(-1.0, 0.0), both(50.0, 60.0)),
+        differ("rated power not-a-number, on, two layers", 5, MixesOn)
+            .tank(|m| m.layers = 2)
+            .heater(heater(nan, 0.0), both(50.0, 60.0)),
+        differ("rated power infinite, on", 5, GoesOn).heater(heater(inf, 0.0), both(50.0, 60.0)),
+        differ("position 1", 5, Panics).heater(heater(1.0, 1.0), UNSET),
+        differ("position -0.5, two layers, on", 5, GoesOn)
+            .tank(|m| (m.layers, m.volume) = (2, 32.0))
+            .heater(heater(1.0, -0.5), both(50.0, 60.0)),
+        differ("position not-a-number, two layers, on", 5, GoesOn)
+            .tank(|m| (m.layers, m.volume) = (2, 32.0))
+            .heater(heater(1.0, nan), both(50.0, 60.0)),
+        differ("thermostat at 1, set points", 5, Panics).heater(
+            Heater {
+                thermostat: Some(1.0),
+                ..heater(1.0, 0.0)
+            },
+            both(50.0, 60.0),
+        ),
+        differ("thermostat at 1, no set points", 5, GoesOn).heater(
+            Heater {
+                thermostat: Some(1.0),
+                ..heater(1.0, 0.0)
+            },
+            UNSET,
+        ),
+        differ("65 events", 6, GoesOn).draws(12.0, &[0.0; 65]),
+        differ("feed not-a-number, nothing drawn", 7, GoesOn).draws(nan, &[]),
+        differ("feed not-a-number, a draw", 7, GoesOn).draws(nan, &[1.0]),
+        differ("feed not-a-number, a draw, two layers and a heater", 7, MixesOn)
+            .tank(|m| (m.layers, m.volume) = (2, 32.0))
+            .heater(heater(1.0, 0.0), UNSET)
+            .draws(nan, &[1.0]),
+        differ("draw of -1", 7, GoesOn).draws(12.0, &[-1.0]),
+        differ("draw not-a-number", 7, GoesOn).draws(12.0, &[nan]),
+        differ("draw infinite", 7, GoesOn).draws(12.0, &[inf]),
+        differ("lower set point not-a-number", 8, GoesOn).heater(heater(1.0, 0.0), both(nan, 60.0)),
+        differ("upper set point not-a-number", 8, GoesOn).heater(heater(1.0, 0.0), both(50.0, nan)),
+        differ("upper set point infinite", 8, GoesOn).heater(heater(1.0, 0.0), both(50.0, inf)),
+        differ("lower set point alone", 8, Errs).heater(heater(1.0, 0.0), (Some(50.0), None)),
+        differ("lower above upper", 8, Errs).heater(heater(1.0, 0.0), both(60.0, 50.0)),
+        differ("a heat capacity that rounds to 0, two layers", 9, MixesOn)
+            .tank(|m| (m.layers, m.volume) = (2, 5e-324))
+            .heater(heater(1.0, 0.0), UNSET),
+        differ("a mean that overflows, two layers and a heater", 9, MixesOn)
+            .tank(|m| (m.layers, m.volume) = (2, 32.0))
+            .heater(heater(1.0, 0.0), UNSET)
+            .put(&[1e308, 1e308]),
+        differ("a mean that overflows after an event", 9, MixesOn)
+            .tank(|m| (m.layers, m.volume) = (2, 32.0))
+            .put(&[1e307, 1e307])
+            .draws(1.7e308, &[1.0]),
+        differ("energy withdrawn overflows", 10, GoesOn)
+            .tank(|m| m.density = 1e308)
+            .draws(12.0, &[16.0]),
+        differ("a heat capacity that rounds to 0, one layer", 10, GoesOn)
+            .tank(|m| (m.volume, m.density) = (5e-324, 0.1))
+            .heater(heater(1.0, 0.0), UNSET),
+        differ("the losses overflow", 10, GoesOn)
+            .tank(|m| (m.standby, m.initial) = (1e308, 1e10))
+            .heater(heater(1.0, 0.0), UNSET),
+        differ("the average overflows", 10, GoesOn)
+            .tank(|m| (m.volume, m.initial) = (1.0, 1.7e308))
+            .draws(1.7e308, &[1.0, 1.0]),
+        differ("the losses of two heaters overflow together", 10, GoesOn)
+            .tank(|m| (m.layers, m.volume, m.standby, m.step) = (2, 2.0, 1.08e305, 20.0))
+            .heater(heater(1000.0, 0.0), both(30.0, 100.0))
+            .heater(heater(1000.0, 0.0), both(110.0, 140.0)),
+    ];
+    made.into_iter().map(|maker| maker.0).collect()
+}
+
+fn number_of_01(case: &Difference) -> u8 {
+    let initial = [case.making.initial];
+    let temperatures = match &case.put {
+        Some(state) => &state.layers[..],
+        None => &initial,
+    };
+    let mut number = match check_tank(&case.making, temperatures) {
+        1 => 1,
+        _ if case.heaters.len() > MOST_HEATERS => 2,
+        number => number,
+    };
+    for heater in &case.heaters {
+        if number == 0 {
+            number = check_heater(heater);
+        }
+    }
+    if number == 0 {
+        number = check_step(&case.step, case.heaters.len());
+    }
+    if number != 0 {
+        return number;
+    }
+    let mut judged = Judged::new(&case.making, &case.heaters).expect("a good tank is made");
+    if let Some(state) = &case.put {
+        judged.put(state);
+    }
+    match judged.step(&case.step) {
+        Outcome::Refused(number) => number,
+        _ => 0,
+    }
+}
+
+/// Runs every case and prints what the Rust does. True if each is as written here.
+pub fn run() -> bool {
+    let mut fine = true;
+    for case in all() {
+        recorder::set_patience(PATIENCE);
+        let outcome = Tank::new(&case.making, &case.heaters).and_then(|tank| {
+            if let Some(state) = &case.put {
+                tank.put(state);
+            }
+            tank.step(case.step.feed, &case.step.volumes, &case.step.set_points)
+        });
+        let (rust, words) = match &outcome {
+            Err(Failed::Panicked(words)) => (Rust::Panics, words.clone()),
+            Err(Failed::Erred(words)) => (Rust::Errs, words.clone()),
+            Err(Failed::MixedTooLong) => (
+                Rust::MixesOn,
+                format!("no order {PATIENCE} rounds past the limit"),
+            ),
+            Ok(stepped) => {
+                let mut words = format!(
+                    "layers {:?} energy {:?} used {:?} average {:?} recoverable {:?}",
+                    stepped.state.layers,
+                    stepped.energy,
+                    stepped.volume_used,
+                    stepped.average,
+                    stepped.recoverable
+                );
+                for turn in &stepped.turns {
+                    words.push_str(&format!(
+                        " [adjusted {:?} supplied {:?} losses {:?}]",
+                        turn.adjusted, turn.supplied, turn.losses
+                    ));
+                }
+                words.truncate(230);
+                (Rust::GoesOn, words)
+            }
+        };
+        recorder::set_patience(1);
+        let number = number_of_01(&case);
+        let as_written = rust == case.rust && number == case.number;
+        fine &= as_written;
+        let mark = if as_written { "" } else { "  <- NOT AS WRITTEN" };
+        println!("{number:>2} {rust:?}: {}: {words}{mark}", case.name);
+    }
+    fine && half_stepped()
+}
+
+/// An error of the Rust comes after the events: its tank is not as it was.
+fn half_stepped() -> bool {
+    let tank = Tank::new(&plain(1, 20.0), &[heater(1.0, 0.0)]).expect("a good tank is made");
+    let before = tank.state();
+    let erred = tank.step(12.0, &[4.0], &[(Some(50.0), None)]).is_err();
+    let after = tank.state();
+    println!(
+        "an error after a draw of 4: layers {:?}, before {:?}",
+        after.layers, before.layers
+    );
+    erred && before != after
+}
