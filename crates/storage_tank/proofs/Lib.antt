@@ -8,3 +8,4 @@ pub mod Course
 pub mod Demand
 pub mod Calls
 pub mod FirstRefusal
+pub mod Filling

@@ -1,5 +1,6 @@
 // The storage tank: what the calls make and step take and answer. A count may be any number; what is past it in an array is not looked at.
 pub mod checks;
+pub mod make;
 pub mod refusals;
 
 use draw_off::event::MAX_EVENTS;
