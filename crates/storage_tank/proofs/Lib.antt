@@ -2,7 +2,7 @@ pub mod Latch
 pub mod Members
 pub mod Order
 pub mod Steps
-pub mod Turns
+pub mod TurnFacts
 pub mod Works
 pub mod Course
 pub mod Demand

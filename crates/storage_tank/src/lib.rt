@@ -2,6 +2,7 @@
 pub mod checks;
 pub mod make;
 pub mod refusals;
+pub mod turns;
 
 use draw_off::event::MAX_EVENTS;
 use heating::SetPoints;
