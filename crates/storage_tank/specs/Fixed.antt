@@ -7,7 +7,7 @@ use lib.Ieee.{Float, nan}
 use Rattle.numeric.specs.Tabulate.{tabulate}
 use Rattle.numeric.specs.Whole.{layerOf}
 use Rattle.cylinder.specs.declared.Cylinder.{Cylinder}
-use Rattle.heating.specs.Turn.{Immersion}
+use Rattle.heating.specs.declared.turn.Immersion.{Immersion}
 use Rattle.storage_tank.specs.declared.Heater.{Heater}
 use Rattle.storage_tank.specs.declared.TankDesign.{TankDesign}
 use Rattle.storage_tank.specs.declared.StorageTank.{StorageTank}

@@ -1,3 +1,4 @@
 pub mod Entries
 pub mod Insert
 pub mod Sorting
+pub mod Same
