@@ -9,3 +9,4 @@ pub mod Demand
 pub mod Calls
 pub mod FirstRefusal
 pub mod Filling
+pub mod TurnLoop

@@ -2,7 +2,7 @@
 use Prim.Native.Nat.{ℕ}
 use mathlib.Core.Path.{_≡_}
 use mathlib.Core.Bool.{Bool}
-use mathlib.Core.List.{List}
+use mathlib.Core.List.{List, []}
 use lib.ListN.{set, replicate}
 use lib.Ieee.{Float}
 use Rattle.numeric.specs.Double.{_⊕_, zero-f}
@@ -13,6 +13,8 @@ use Rattle.heating.specs.declared.turn.Immersion.{Immersion}
 use Rattle.heating.specs.Turn.{Turned, turnNumber}
 use Rattle.working_order.specs.Order.{maxHeaters}
 use Rattle.storage_tank.specs.declared.Heater.{Heater}
+use Rattle.storage_tank.specs.declared.Setting.{Setting}
+use Rattle.storage_tank.specs.declared.Step.{Step}
 use Rattle.storage_tank.specs.declared.turns.Heated.{Heated}
 use Rattle.storage_tank.specs.Fixed.{placed}
 use Rattle.storage_tank.specs.Work.{Progress, lineOf, zeroLine}
@@ -20,6 +22,10 @@ use Rattle.storage_tank.specs.Work.{Progress, lineOf, zeroLine}
 -- the heater x in a tank of n layers
 abbrev pub immersion : ℕ → Heater → Immersion
 immersion n x = record { rated = x .rated; layer = layerOf (x .position) n; thermostat = layerOf (placed x .thermostat) n }
+
+-- of a step's arguments, the turns look at the settings alone
+abbrev pub settingsOnly : List Setting → Step
+settingsOnly settings = record { feed = zero-f; events = 0; volumes = []; entries = 0; settings = settings }
 
 -- before the first turn
 abbrev pub noTurns : List Bool → Heated

@@ -14,12 +14,11 @@ ghost use Rattle.working_order.specs.Order.{maxHeaters};
 ghost use Rattle.storage_tank.specs.Fixed.{placed, noHeater, placedHeaters};
 ghost use Rattle.storage_tank.specs.Order.{workingOrder};
 ghost use Rattle.storage_tank.specs.Work.{zeroLine, turns, endBy};
-ghost use Rattle.storage_tank.specs.Lent.{immersion, noTurns, afterHeat, TurnWorked, progressOf};
+ghost use Rattle.storage_tank.specs.Lent.{immersion, settingsOnly, noTurns, afterHeat, TurnWorked, progressOf};
 
 use crate::Heater;
 use crate::HeaterLine;
 use crate::Setting;
-use crate::Step;
 use cylinder::Cylinder;
 use heating::SetPoints;
 use heating::turn::Immersion;
@@ -120,16 +119,15 @@ fn heat_in_order(
     vol: &[f64; MAX_LAYERS],
     n: usize,
     fitted: [Heater; MAX_HEATERS],
-    a: Step,
+    settings: [Setting; MAX_HEATERS],
     order: &[usize; MAX_HEATERS],
     flags: [bool; MAX_HEATERS],
     temps: &mut [f64; MAX_LAYERS],
     charged: &mut [f64; MAX_LAYERS],
 ) -> Heated
     requires { ⌜ (1 ≤ c .layers) × (c .layers ≤ maxLayers) × (n ≤ maxHeaters) × (now vol ≡ layerVolumes c) × (length (now order) ≡ maxHeaters) × ((k : ℕ) → k < n → getD (now order) k 0 < n) ⌝ }
-    ensures { λ r. ⌜ ((t : Totals) (average : Float) → turns (record { cylinder = c; heaters = placedHeaters n fitted }) a (take n (now (order .entry))) (progressOf t average (now (temps .entry)) (now (charged .entry)) (noTurns flags)) .end ≡ endBy (r .number) (progressOf t average (now (temps .exit)) (now (charged .exit)) r)) ⌝ }
+    ensures { λ r. ⌜ ((t : Totals) (average : Float) → turns (record { cylinder = c; heaters = placedHeaters n fitted }) (settingsOnly settings) (take n (now (order .entry))) (progressOf t average (now (temps .entry)) (now (charged .entry)) (noTurns flags)) .end ≡ endBy (r .number) (progressOf t average (now (temps .exit)) (now (charged .exit)) r)) ⌝ }
 {
-    let settings = a.settings;
     let mut s = no_turns(flags);
     let mut k = 0;
     while k < n {
@@ -151,15 +149,15 @@ pub fn heat_turns(
     vol: &[f64; MAX_LAYERS],
     n: usize,
     fitted: [Heater; MAX_HEATERS],
-    a: Step,
+    settings: [Setting; MAX_HEATERS],
     flags: [bool; MAX_HEATERS],
     temps: &mut [f64; MAX_LAYERS],
     charged: &mut [f64; MAX_LAYERS],
 ) -> Heated
     requires { ⌜ (1 ≤ c .layers) × (c .layers ≤ maxLayers) × (n ≤ maxHeaters) × (now vol ≡ layerVolumes c) ⌝ }
-    ensures { λ r. ⌜ ((t : Totals) (average : Float) → turns (record { cylinder = c; heaters = placedHeaters n fitted }) a (workingOrder (record { cylinder = c; heaters = placedHeaters n fitted })) (progressOf t average (now (temps .entry)) (now (charged .entry)) (noTurns flags)) .end ≡ endBy (r .number) (progressOf t average (now (temps .exit)) (now (charged .exit)) r)) ⌝ }
+    ensures { λ r. ⌜ ((t : Totals) (average : Float) → turns (record { cylinder = c; heaters = placedHeaters n fitted }) (settingsOnly settings) (workingOrder (record { cylinder = c; heaters = placedHeaters n fitted })) (progressOf t average (now (temps .entry)) (now (charged .entry)) (noTurns flags)) .end ≡ endBy (r .number) (progressOf t average (now (temps .exit)) (now (charged .exit)) r)) ⌝ }
 {
     let positions = positions_of(fitted);
     let order = working_order::working_order(n, &positions);
-    heat_in_order(c, vol, n, fitted, a, &order, flags, temps, charged)
+    heat_in_order(c, vol, n, fitted, settings, &order, flags, temps, charged)
 }

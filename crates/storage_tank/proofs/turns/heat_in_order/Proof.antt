@@ -1,72 +1,78 @@
+-- `heat_in_order` meets its contract (01, Step). The loop's invariant: the turns that are left, from where those worked have come to, end as the whole does.
+use mathlib.Core.Path.{_≡_, refl, _∙_}
+use Prim.Native.Nat.{_-_, _≤_}
+use native.Mathlib.Omega.{arith}
+use lib.Ieee.{Float}
+use lib.ListN.{take}
+use lib.Seq.{slice}
+use Rattle.draw_off.specs.declared.Totals.{Totals}
+use Rattle.storage_tank.proofs.TurnLoop.{turnsFrom, start-with, loop-done, loop-on, loop-off}
 use borrow.Author.Needs.{needs}
 use Rattle.storage_tank.proofs.turns.heat_in_order.Statement.{statement}
 use Rattle.storage_tank.proofs.turns.heat_in_order.Tie as tie
-use Rattle.storage_tank.proofs.turns.heat_in_order.Reads as reads
-use Rattle.storage_tank.proofs.turns.heat_in_order.Lts as lts
-use Rattle.storage_tank.proofs.turns.heat_turn.Reads as heat-turn-reads
-use Rattle.storage_tank.proofs.turns.no_turns.Reads as no-turns-reads
 
 abbrev Inv-loop : tie.InvT-loop
-Inv-loop c vol n order temps₀ charged₀ fitted settings s₀ k₀ temps charged s k = ?
+Inv-loop c vol n order temps₀ charged₀ fitted settings s₀ k₀ temps charged s k =
+    (k ≤ n)
+    × (s .number ≡ 0)
+    × ((t : Totals) (average : Float) → turnsFrom c n fitted settings t average (slice k n order) temps charged s ≡ turnsFrom c n fitted settings t average (take n order) temps₀ charged₀ s₀)
 
 abbrev μ-loop : tie.MeasureT-loop
-μ-loop c vol n order temps₀ charged₀ fitted settings s₀ k₀ temps charged s k = ?
+μ-loop c vol n order temps₀ charged₀ fitted settings s₀ k₀ temps charged s k = n - k
 
--- src/turns.rt:133:9
 no-turns-requires : tie.Need-no-turns-requires Inv-loop μ-loop
 no-turns-requires c κs = search needs
 
--- src/turns.rt:135:5
 loop-holds : tie.Need-loop-holds Inv-loop μ-loop
-loop-holds c = search needs
+loop-holds c = (omega arith, rw (c .no-turns .ensures), λ t average. refl)
 
--- src/turns.rt:136:17
 mul-h : tie.Need-mul-h Inv-loop μ-loop
 mul-h c = search needs
 
--- src/turns.rt:136:17
 element-copy-out-h : tie.Need-element-copy-out-h Inv-loop μ-loop
 element-copy-out-h c = search needs
 
--- src/turns.rt:137:17
 mul-x : tie.Need-mul-x Inv-loop μ-loop
-mul-x c = search needs
+mul-x c = omega (arith, c .before .before .before .before .pre .5 (c .before .before .loop .k) (c .before .loop-test .taken))
 
--- src/turns.rt:137:17
 array-copy-out-x : tie.Need-array-copy-out-x Inv-loop μ-loop
-array-copy-out-x c = search needs
+array-copy-out-x c = omega (arith, c .before .before .before .before .pre .5 (c .before .before .loop .k) (c .before .loop-test .taken))
 
--- src/turns.rt:138:17
 mul-e : tie.Need-mul-e Inv-loop μ-loop
-mul-e c = search needs
+mul-e c = omega (arith, c .before .before .before .before .before .pre .5 (c .before .before .before .loop .k) (c .before .before .loop-test .taken))
 
--- src/turns.rt:138:17
 array-copy-out-e : tie.Need-array-copy-out-e Inv-loop μ-loop
-array-copy-out-e c = search needs
+array-copy-out-e c = omega (arith, c .before .before .before .before .before .pre .5 (c .before .before .before .loop .k) (c .before .before .loop-test .taken))
 
--- src/turns.rt:140:9
 heat-turn-requires : tie.Need-heat-turn-requires Inv-loop μ-loop
-heat-turn-requires c κs = search needs
+heat-turn-requires c κs =
+    let h = c .before .before .before .before .before .before .before .before .pre .5 (c .before .before .before .before .before .before .loop .k) (c .before .before .before .before .before .loop-test .taken) in
+    (omega arith, omega arith, omega arith)
 
--- src/turns.rt:142:13
 returns : tie.Need-returns Inv-loop μ-loop
-returns c = search needs
+returns c =
+    let l = c .before .before .before .before .before .before .before .before .before .loop in
+    let p = c .before .before .before .before .before .before .before .before .before .before .before .pre in
+    let h = p .5 (l .k) (c .before .before .before .before .before .before .before .before .loop-test .taken) in
+    let w = rw (p .3) at (c .before .before .heat-turn .ensures) in
+    λ t average. start-with _ _ _ _ t average _ _ _ _ _ (c .before .before .before .before .before .before .before .before .before .before .no-turns .ensures) ∙ loop-off _ _ _ _ t average _ (l .k) _ _ (l .s) _ (l .inv .2 t average) _ _ _ (c .before .before .before .before .before .before .before .before .loop-test .taken) (omega (arith, p .4)) h w (c .if1 .taken)
 
--- src/turns.rt:144:9
 add-k : tie.Need-add-k Inv-loop μ-loop
 add-k c = search needs
 
--- src/turns.rt:135:5
 loop-less : tie.Need-loop-less Inv-loop μ-loop
 loop-less c = search needs
 
--- src/turns.rt:135:5
 loop-again : tie.Need-loop-again Inv-loop μ-loop
-loop-again c = search needs
+loop-again c =
+    let l = c .before .before .before .before .before .before .before .before .before .loop in
+    let p = c .before .before .before .before .before .before .before .before .before .before .before .pre in
+    let h = p .5 (l .k) (c .before .before .before .before .before .before .before .before .loop-test .taken) in
+    let w = rw (p .3) at (c .before .before .heat-turn .ensures) in
+    (omega arith, c .if1 .left, λ t average. loop-on _ _ _ _ t average _ (l .k) _ _ (l .s) _ (l .inv .2 t average) _ _ _ (c .before .before .before .before .before .before .before .before .loop-test .taken) (omega (arith, p .4)) h w (c .if1 .left))
 
--- src/turns.rt:118:1
 returns-2 : tie.Need-returns-2 Inv-loop μ-loop
-returns-2 c = search needs
+returns-2 c = λ t average. start-with _ _ _ _ t average _ _ _ _ _ (c .before .before .no-turns .ensures) ∙ rw (c .before .loop .inv .1) (loop-done _ _ _ _ t average _ (c .before .loop .k) _ _ (c .before .loop .s) _ (c .before .loop .inv .2 t average) (c .loop-test .left))
 
 pub heat-in-order-spec : {M : Type 1} → statement M
 heat-in-order-spec =

@@ -1,38 +1,34 @@
+-- `heat_turn` meets its contract (01, Turn): the turn of its heater, and what it leaves of flags, losses and lines.
+use native.Mathlib.Omega.{arith}
+use Rattle.numeric.proofs.Layer.{layer-below}
 use borrow.Author.Needs.{needs}
 use Rattle.storage_tank.proofs.turns.heat_turn.Statement.{statement}
 use Rattle.storage_tank.proofs.turns.heat_turn.Tie as tie
-use Rattle.storage_tank.proofs.turns.heat_turn.Reads as reads
-use Rattle.storage_tank.proofs.turns.heat_turn.Lts as lts
-use Rattle.heating.proofs.turn.turn.Reads as turn-reads
-use Rattle.storage_tank.proofs.turns.immersion_of.Reads as immersion-of-reads
 
--- src/turns.rt:87:9
 immersion-of-requires : tie.Need-immersion-of-requires
 immersion-of-requires c κs = search needs
 
--- src/turns.rt:88:47
 element-copy-out-turn : tie.Need-element-copy-out-turn
 element-copy-out-turn c = search needs
 
--- src/turns.rt:88:9
 turn-requires : tie.Need-turn-requires
-turn-requires c κs = search needs
+turn-requires c κs =
+    let n = c .before .before .before .before .args .c .layers in
+    rw (c .before .before .before .immersion-of .ensures) (layer-below n (omega arith) (omega arith) _, layer-below n (omega arith) (omega arith) _, omega arith)
 
--- src/turns.rt:92:5
 element-write-r : tie.Need-element-write-r
 element-write-r c = search needs
 
--- src/turns.rt:93:5
 mul-t24 : tie.Need-mul-t24
 mul-t24 c = search needs
 
--- src/turns.rt:93:5
 element-set-from-r : tie.Need-element-set-from-r
 element-set-from-r c = search needs
 
--- src/turns.rt:74:1
 returns : tie.Need-returns
-returns c = search needs
+returns c =
+    let w = rw (c .before .before .before .before .before .immersion-of .ensures) at (c .before .turn .ensures) in
+    record { answers = rw (w .answers); leaves = w .leaves; charges = w .charges }
 
 pub heat-turn-spec : {M : Type 1} → statement M
 heat-turn-spec =

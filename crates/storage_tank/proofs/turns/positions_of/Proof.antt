@@ -1,50 +1,58 @@
+-- `positions_of` meets its contract. The loop's invariant: the places passed hold the heaters' positions.
+use mathlib.Core.Path.{_≡_, refl, _∙_}
+use mathlib.Core.List.{List}
+use Prim.Native.Nat.{ℕ, _-_, _≤_}
+use native.Mathlib.Omega.{arith}
+use lib.ListN.{getD, replicate}
+use lib.Ieee.{Float, nan}
+use Rattle.numeric.specs.Double.{zero-f}
+use Rattle.numeric.specs.Tabulate.{tabulate}
+use Rattle.numeric.specs.Copy.{copied}
+use Rattle.working_order.specs.Order.{maxHeaters}
+use Rattle.storage_tank.specs.declared.Heater.{Heater}
+use Rattle.storage_tank.specs.Fixed.{noHeater}
+use Rattle.storage_tank.proofs.Filling.{tabulated-turn, tabulated-end}
 use borrow.Author.Needs.{needs}
 use Rattle.storage_tank.proofs.turns.positions_of.Statement.{statement}
 use Rattle.storage_tank.proofs.turns.positions_of.Tie as tie
-use Rattle.storage_tank.proofs.turns.positions_of.Reads as reads
-use Rattle.storage_tank.proofs.turns.positions_of.Lts as lts
+
+abbrev positionAt : List Heater → ℕ → Float
+positionAt fitted h = getD fitted h noHeater .position
 
 abbrev Inv-loop : tie.InvT-loop
-Inv-loop fitted positions₀ h₀ positions h = ?
+Inv-loop fitted positions₀ h₀ positions h = (h ≤ maxHeaters) × (positions ≡ copied h (tabulate (positionAt fitted) maxHeaters 0) (replicate maxHeaters zero-f))
 
 abbrev μ-loop : tie.MeasureT-loop
-μ-loop fitted positions₀ h₀ positions h = ?
+μ-loop fitted positions₀ h₀ positions h = maxHeaters - h
 
--- src/turns.rt:109:5
 loop-holds : tie.Need-loop-holds Inv-loop μ-loop
-loop-holds c = search needs
+loop-holds c = (omega arith, refl)
 
--- src/turns.rt:110:17
 mul-x : tie.Need-mul-x Inv-loop μ-loop
 mul-x c = search needs
 
--- src/turns.rt:110:17
 array-copy-out-x : tie.Need-array-copy-out-x Inv-loop μ-loop
 array-copy-out-x c = search needs
 
--- src/turns.rt:111:9
 mul-positions : tie.Need-mul-positions Inv-loop μ-loop
 mul-positions c = search needs
 
--- src/turns.rt:111:9
 array-write-positions : tie.Need-array-write-positions Inv-loop μ-loop
 array-write-positions c = search needs
 
--- src/turns.rt:112:9
 add-h : tie.Need-add-h Inv-loop μ-loop
 add-h c = search needs
 
--- src/turns.rt:109:5
 loop-less : tie.Need-loop-less Inv-loop μ-loop
 loop-less c = search needs
 
--- src/turns.rt:109:5
 loop-again : tie.Need-loop-again Inv-loop μ-loop
-loop-again c = search needs
+loop-again c = (omega arith, rw (c .before .before .loop .inv .1) (tabulated-turn (positionAt (c .before .before .before .args .t1)) maxHeaters (c .before .before .loop .h) nan (replicate maxHeaters zero-f) (omega arith) (omega arith)))
 
--- src/turns.rt:104:1
 returns : tie.Need-returns Inv-loop μ-loop
-returns c = search needs
+returns c =
+    let e : c .before .loop .h ≡ maxHeaters = omega arith in
+    (rw e at (c .before .loop .inv .1)) ∙ tabulated-end (positionAt (c .before .before .args .t1)) maxHeaters (replicate maxHeaters zero-f) refl
 
 pub positions-of-spec : {M : Type 1} → statement M
 positions-of-spec =
