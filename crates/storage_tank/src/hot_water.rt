@@ -10,7 +10,6 @@ ghost use Rattle.numeric.specs.Close.{wideClose};
 ghost use Rattle.mixing.specs.Limits.{maxLayers};
 ghost use Rattle.storage_tank.specs.Calls.{stepped};
 ghost use Rattle.storage_tank.specs.Lent.{noTotals, acceptedStep};
-
 use crate::Report;
 use crate::Step;
 use crate::Stepped;
@@ -99,7 +98,13 @@ impl StorageTank {
         let vol = cylinder::layer_volumes(c);
         let mut temps = self.temps;
         let d = draw_off::event::draw_events(
-            c, &vol, a.feed, a.events, &a.volumes, &mut temps, no_totals(),
+            c,
+            &vol,
+            a.feed,
+            a.events,
+            &a.volumes,
+            &mut temps,
+            no_totals(),
         );
         if d.number != 0 {
             return Stepped {
@@ -115,7 +120,14 @@ impl StorageTank {
         let settings = a.settings;
         let flags = self.flags;
         let h = crate::turns::heat_turns(
-            c, &vol, self.heaters, fitted, settings, flags, &mut temps, &mut charged,
+            c,
+            &vol,
+            self.heaters,
+            fitted,
+            settings,
+            flags,
+            &mut temps,
+            &mut charged,
         );
         if h.number != 0 {
             return Stepped {

@@ -3,7 +3,6 @@ pub mod checks;
 pub mod hot_water;
 pub mod make;
 pub mod refusals;
-
 pub mod turns;
 
 use draw_off::event::MAX_EVENTS;

@@ -15,7 +15,6 @@ ghost use Rattle.storage_tank.specs.Fixed.{placed, noHeater, placedHeate
 ghost use Rattle.storage_tank.specs.Order.{workingOrder};
 ghost use Rattle.storage_tank.specs.Work.{zeroLine, turns, endBy};
 ghost use Rattle.storage_tank.specs.Lent.{immersion, settingsOnly, noTurns, afterHeat, TurnWorked, progressOf};
-
 use crate::Heater;
 use crate::HeaterLine;
 use crate::Setting;
