@@ -1,2 +1,3 @@
 pub mod Group
 pub mod Rounds
+pub mod Keeps

@@ -1,1 +1,2 @@
 pub mod Infinity
+pub mod Difference
