@@ -71,7 +71,13 @@ fn show(c: Cylinder, initial: f64, feed: f64, n: usize, volumes: &[f64; MAX_EVEN
 fn one(layers: usize, volume: f64, feed: f64, wanted: f64)
     requires { ⌜ (1 ≤ layers) × (layers ≤ maxLayers) ⌝ }
 {
-    show(tank(layers, volume, 1.0), 60.0, feed, 1, &[wanted; MAX_EVENTS]);
+    show(
+        tank(layers, volume, 1.0),
+        60.0,
+        feed,
+        1,
+        &[wanted; MAX_EVENTS],
+    );
 }
 
 // 01's table, with a layer volume of 16.
