@@ -1,6 +1,6 @@
 -- Proves that the events of a step leave the places past the layers as they were (01, Draw; Refill), and keep the number of places: in what the layers
 -- still hold, in what the refill makes of it, and in the layers themselves.
-use Prim.Native.Nat.{ℕ, zero, suc, _≤_, _<_}
+use Prim.Native.Nat.{ℕ, zero, suc, _<_}
 use native.Mathlib.Omega.{arith}
 use mathlib.Core.Bool.{Bool, true, false}
 use mathlib.Core.List.{List, [], _∷_}
@@ -15,8 +15,8 @@ use Rattle.cylinder.specs.Layers.{layerVolumes, noVolume}
 use Rattle.draw_off.specs.declared.Totals.{Totals}
 use Rattle.draw_off.specs.Cold.{cold}
 use Rattle.draw_off.specs.Draw.{Draw, counted, drawShare, drawLayer, drawLayers, drawFeed, extract}
-use Rattle.draw_off.specs.Refill.{Filling, Refill, takeShare, takeFrom, takeBelow, fromFeed, fillingOf, refillLayer, refillLayers, refill}
-use Rattle.draw_off.specs.Event.{Event, eventMixing, mixedTemps, eventOf, tempsAfterEvent, totalsAfterEvent, eventNumber, drawAll}
+use Rattle.draw_off.specs.Refill.{Filling, Refill, takeShare, takeFrom, fromFeed, fillingOf, refillLayer, refill}
+use Rattle.draw_off.specs.Event.{eventMixing, mixedTemps, eventOf, tempsAfterEvent, totalsAfterEvent, eventNumber, drawAll}
 use Rattle.draw_off.proofs.Descents.{restNone, lackNone, lacksNone, draw-descends, donors-descend, refill-descends}
 
 -- ---- what the layers still hold after a draw

@@ -1,12 +1,11 @@
 -- Proves what is left where nothing is drawn (01, Draw; Refill): with no events nothing changes; an event of 0 leaves the layers, adds no energy, and uses the
 -- tank's volume - Sum2 of the full layers, which need not be 0.
 use Prim.Native.Nat.{ℕ, zero, suc, _≤_}
-use native.Mathlib.Omega.{arith}
 use mathlib.Core.Bool.{true, false}
 use mathlib.Core.Path.{_≡_, refl}
 use mathlib.Core.List.{List, []}
-use lib.ListN.{getD, replicate, getD-replicate}
-use lib.Ieee.{Float, nan, lt, le, eq, add, sub, mul, div, neg, ofBits, ofInt}
+use lib.ListN.{getD, getD-replicate}
+use lib.Ieee.{Float, nan, lt, eq, add, sub, div, neg, ofBits, ofInt}
 use lib.Ieee.Scale.{finite}
 use Rattle.numeric.specs.Double.{dbl, whole, _⊕_, _⊖_, zero-f}
 use Rattle.numeric.specs.Close.{close, wideClose}

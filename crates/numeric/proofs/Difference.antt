@@ -1,5 +1,5 @@
 -- Proves that a finite double less itself is 0 (01, Arithmetic underneath).
-use mathlib.Core.Bool.{Bool, true, false}
+use mathlib.Core.Bool.{true, false}
 use mathlib.Core.Path.{_≡_, refl, _∙_}
 use Prim.Native.Nat.{ℕ, _*_, _<_}
 use native.Mathlib.Nat.{sub-self, zero-mul, mul-pos, zero-lt-suc}
