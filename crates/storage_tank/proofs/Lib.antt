@@ -11,3 +11,4 @@ pub mod FirstRefusal
 pub mod Filling
 pub mod TurnLoop
 pub mod StepWorked
+pub mod Kept

@@ -43,7 +43,7 @@ abbrev drawnEnd : Drawing → Progress → End
 drawnEnd d s = endBy (d .number) (withDraw (d .temps) (d .totals) s)
 
 -- the events end where the code's loop over them does
-events-end : (c : Cylinder) (feed : Float) (vs : List Float) (s : Progress) → events c feed vs s .end ≡ drawnEnd (drawAll c feed vs 0 (s .temps) (s .totals)) s
+pub events-end : (c : Cylinder) (feed : Float) (vs : List Float) (s : Progress) → events c feed vs s .end ≡ drawnEnd (drawAll c feed vs 0 (s .temps) (s .totals)) s
 unfolding events andThen event drawAll
 events-end c feed [] s = unfold endBy in refl
 events-end c feed (v ∷ vs) s = go (eventNumber c e (s .totals)) (λ s'. events-end c feed vs s')

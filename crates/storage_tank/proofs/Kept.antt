@@ -1,0 +1,146 @@
+-- Proves that a step keeps the places past its layers and the lengths of its arrays, so that the unused places of every tank handed back are zero (01, The four calls:
+-- unused places are zero, but a step keeps the tank's).
+use mathlib.Core.Path.{_≡_, refl, sym, ap, _∙_, subst}
+use mathlib.Core.List.{List, [], _∷_, _++_}
+use mathlib.Core.Bool.{Bool, false}
+use Prim.Native.Nat.{ℕ, zero, suc, _≤_, _<_}
+use native.Mathlib.Nat.{le-of-suc-le-suc, not-suc-le-zero}
+use lib.ListN.{length, getD, drop, replicate, length-set}
+use lib.Ieee.{Float}
+use Rattle.numeric.specs.Double.{zero-f}
+use Rattle.numeric.specs.Places.{Keeps, keeps-self, keeps-trans}
+use Rattle.mixing.specs.Limits.{maxLayers}
+use Rattle.cylinder.specs.Layers.{layerVolumes}
+use Rattle.draw_off.specs.Event.{Event}
+use Rattle.draw_off.proofs.Keeps.{events-keep}
+use Rattle.heating.proofs.Keeps.{turn-keeps-temps}
+use Rattle.storage_tank.specs.declared.TankDesign.{TankDesign}
+use Rattle.storage_tank.specs.declared.StorageTank.{StorageTank}
+use Rattle.storage_tank.specs.declared.Report.{Report}
+use Rattle.storage_tank.specs.declared.Step.{Step}
+use Rattle.storage_tank.specs.Fixed.{Fixed, State, immersionOf, fixedIn, stateIn}
+use Rattle.storage_tank.specs.Order.{workingOrder}
+use Rattle.storage_tank.specs.Checks.{pointsOf, stepRefusal}
+use Rattle.storage_tank.specs.Work.{Progress, Turn, End, refused, done, Work, resume, andThen, endBy, events, wantedVolumes, withAverage, turnOf, afterTurn, heaterTurn, turns, allTurns, opening, closed, begin, work}
+use Rattle.storage_tank.specs.History.{Call, step, designRefusal}
+use Rattle.storage_tank.specs.Calls.{made, madeOf, answer, stepped, answered, answers}
+use Rattle.storage_tank.specs.Demand.{noAnswer}
+use Rattle.storage_tank.proofs.StepWorked.{events-end}
+
+-- ---- what holds of where a work ended, if it was not refused
+
+abbrev Left : (Progress → Type 0) → End → Type 0
+Left R (refused n) = Unit {0}
+Left R (done s) = R s
+
+left-by : (R : Progress → Type 0) (n : ℕ) (s : Progress) → R s → Left R (endBy n s)
+unfolding endBy
+left-by R zero s r = r
+left-by R (suc n) s r = tt
+
+left-then : (R R' : Progress → Type 0) (es : List Event) (us : List Turn) (e : End) (f : Progress → Work) → Left R e → ((s : Progress) → R s → Left R' (f s .end)) → Left R' (resume es us e f .end)
+unfolding resume
+left-then R R' es us (refused n) f r k = tt
+left-then R R' es us (done s) f r k = k s r
+
+-- the layers' array of st is kept past n places, and the flags keep their number
+pub record KeepsState (n : ℕ) (st : State) (s : Progress) : Type 0 where
+  pub temps : Keeps n (st .temps) (s .temps)
+  pub flags : length (s .flags) ≡ length (st .flags)
+
+module _ (f : Fixed) (a : Step) (st : State) where
+  abbrev Kept : Progress → Type 0
+  Kept s = KeepsState (f .cylinder .layers) st s
+
+  turn-left : (h : ℕ) (s : Progress) → Kept s → Kept (afterTurn (turnOf f a h s) s)
+  unfolding afterTurn turnOf
+  turn-left h s k = record {
+    temps = keeps-trans (f .cylinder .layers) (st .temps) (s .temps) _ (k .temps) (turn-keeps-temps (f .cylinder) (layerVolumes (f .cylinder)) (immersionOf f h) (pointsOf a h) (s .temps) (s .charged) (getD (s .flags) h false));
+    flags = length-set (s .flags) h _ ∙ k .flags;
+  }
+
+  turns-left : (hs : List ℕ) (s : Progress) → Kept s → Left Kept (turns f a hs s .end)
+  unfolding turns andThen heaterTurn
+  turns-left [] s k = k
+  turns-left (h ∷ hs) s k = left-then Kept Kept _ _ _ _ (left-by Kept _ _ (turn-left h s k)) (λ s' k'. turns-left hs s' k')
+
+  average-left : (s : Progress) → Kept s → Kept (withAverage (f .cylinder) s)
+  unfolding withAverage
+  average-left s k = record { temps = k .temps; flags = k .flags }
+
+  events-left : Left Kept (events (f .cylinder) (a .feed) (wantedVolumes a) (opening st) .end)
+  unfolding opening
+  events-left =
+      subst (λ (e : End). Left Kept e) (sym (events-end (f .cylinder) (a .feed) (wantedVolumes a) (opening st)))
+      (left-by Kept _ _ (record { temps = events-keep (f .cylinder) (a .feed) (wantedVolumes a) 0 (st .temps) _; flags = refl }))
+
+  closed-left : (e : End) → Left Kept e → Left Kept (closed e)
+  unfolding closed
+  closed-left (refused n) k = tt
+  closed-left (done s) k = left-by Kept _ s k
+
+  pub work-left : Left Kept (work f st a .end)
+  unfolding work
+  work-left = go (stepRefusal f st a)
+    where
+      go : (n : ℕ) → Left Kept (begin f st a n .end)
+      go (suc n) = unfold begin in tt
+      go zero = unfold begin andThen in (closed-left _ (left-then Kept Kept _ _ _ _ events-left (λ s k. turns-left (workingOrder f) (withAverage (f .cylinder) s) (average-left s k))))
+
+-- a step keeps the places past the tank's layers, and its arrays their lengths
+pub step-keeps : (t : StorageTank) (r : Report) (a : Step) → Keeps (t .layers) (t .temps) (stepped t r a .tank .temps) × (length (stepped t r a .tank .flags) ≡ length (t .flags))
+unfolding stepped
+step-keeps t r a = go (work (fixedIn t) (stateIn t) a .end) (work-left (fixedIn t) a (stateIn t))
+  where
+    go : (e : End) → Left (Kept (fixedIn t) a (stateIn t)) e → Keeps (t .layers) (t .temps) (answer t r e .tank .temps) × (length (answer t r e .tank .flags) ≡ length (t .flags))
+    go (refused n) k = unfold answer in (keeps-self (t .layers) (t .temps), refl)
+    go (done s) k = unfold answer in (k .temps, k .flags)
+
+-- ---- the unused places of the tanks of a list of calls
+
+-- what stands past a tank's layers is zero
+abbrev pub UnusedZero : StorageTank → Type 0
+UnusedZero t = (j : ℕ) → t .layers ≤ j → getD (t .temps) j zero-f ≡ zero-f
+
+all-zero : (k j : ℕ) → getD (replicate k zero-f) j zero-f ≡ zero-f
+all-zero zero j = refl
+all-zero (suc k) zero = refl
+all-zero (suc k) (suc j) = all-zero k j
+
+drop-nothing : (n : ℕ) → drop {A = Float} n [] ≡ []
+drop-nothing zero = refl
+drop-nothing (suc n) = refl
+
+filled-past : (n k : ℕ) (x : Float) (j : ℕ) → n ≤ j → getD (replicate n x ++ drop n (replicate k zero-f)) j zero-f ≡ zero-f
+filled-past zero k x j l = all-zero k j
+filled-past (suc n) k x zero l = absurd (not-suc-le-zero l)
+filled-past (suc n) zero x (suc j) l = subst (λ (ys : List Float). getD (replicate n x ++ ys) j zero-f ≡ zero-f) (drop-nothing n) (filled-past n zero x j (le-of-suc-le-suc l))
+filled-past (suc n) (suc k) x (suc j) l = filled-past n k x j (le-of-suc-le-suc l)
+
+pub made-unused : (m : TankDesign) → UnusedZero (made m .tank)
+unfolding made
+made-unused m = go (designRefusal m)
+  where
+    go : (n : ℕ) → UnusedZero (madeOf m n .tank)
+    go zero = unfold madeOf in (filled-past (m .layers) maxLayers (m .initial))
+    go (suc n) = unfold madeOf in (λ j l. all-zero maxLayers j)
+
+step-layers : (t : StorageTank) (r : Report) (a : Step) → stepped t r a .tank .layers ≡ t .layers
+unfolding stepped
+step-layers t r a = go (work (fixedIn t) (stateIn t) a .end)
+  where
+    go : (e : End) → answer t r e .tank .layers ≡ t .layers
+    go (refused n) = unfold answer in refl
+    go (done s) = unfold answer in refl
+
+call-unused : (t : StorageTank) (r : Report) (x : Call) → UnusedZero t → UnusedZero (answered t r x .tank)
+unfolding answered
+call-unused t r (step a) z j l =
+    let k : t .layers ≤ j = subst (λ (n : ℕ). n ≤ j) (step-layers t r a) l in
+    step-keeps t r a .0 .past j zero-f k ∙ z j k
+
+pub tanks-unused : (calls : List Call) (t : StorageTank) (r : Report) → UnusedZero t → (i : ℕ) → i < length calls → UnusedZero (getD (answers t r calls) i noAnswer .tank)
+unfolding answers
+tanks-unused [] t r z i l = absurd (not-suc-le-zero l)
+tanks-unused (x ∷ calls) t r z zero l = call-unused t r x z
+tanks-unused (x ∷ calls) t r z (suc i) l = tanks-unused calls (answered t r x .tank) (answered t r x .report) (call-unused t r x z) i (le-of-suc-le-suc l)
