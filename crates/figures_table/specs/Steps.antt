@@ -3,7 +3,7 @@ use mathlib.Core.Path.{_≡_, refl}
 use mathlib.Core.List.{List, [], _∷_, map}
 use mathlib.Core.Bool.{Bool, true, false}
 use Prim.Native.Nat.{ℕ}
-use lib.ListN.{take, replicate}
+use lib.ListN.{take}
 use lib.Ieee as I
 use lib.Ieee.{Float, nan}
 use Rattle.numeric.specs.Double.{dbl, whole, zero-f}
@@ -23,7 +23,7 @@ use Rattle.draw_off.specs.Draw as Draw
 use Rattle.draw_off.specs.Refill as Refill
 use Rattle.draw_off.specs.Event as Event
 use Rattle.heating.specs.declared.SetPoints.{SetPoints}
-use Rattle.heating.specs.declared.SetPoints.the-variants.{Neither, Lower, Upper, Both}
+use Rattle.heating.specs.declared.SetPoints.the-variants.{Neither, Both}
 use Rattle.heating.specs.Switch as Switch
 use Rattle.heating.specs.Heat as Heat
 use Rattle.heating.specs.Losses as Losses
@@ -32,7 +32,6 @@ use Rattle.heating.specs.Turn as Turn
 use Rattle.storage_tank.specs.declared.Heater.{Heater}
 use Rattle.storage_tank.specs.declared.TankDesign.{TankDesign}
 use Rattle.storage_tank.specs.declared.Setting.{Setting}
-use Rattle.storage_tank.specs.declared.Step.{Step}
 use Rattle.storage_tank.specs.declared.HeaterLine.{HeaterLine}
 use Rattle.storage_tank.specs.declared.Report.{Report}
 use Rattle.storage_tank.specs.declared.Stepped.{Stepped}
@@ -44,7 +43,7 @@ use Rattle.storage_tank.specs.Work as Work
 use Rattle.storage_tank.specs.History as History
 use Rattle.storage_tank.specs.History.{Call, step}
 use Rattle.storage_tank.specs.Calls as Calls
-use Rattle.storage_tank.specs.Calls.{made, answers, zeroHeater}
+use Rattle.storage_tank.specs.Calls.{made, answers}
 
 -- one name that opens every definition
 unfoldable opened : Unit {0}

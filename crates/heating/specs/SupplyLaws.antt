@@ -1,5 +1,5 @@
 -- Proves what demand 3 says of a supply (01, Supply and switch-off; Turn): it is never more than rated power × step length, and a zero where the heater ran off.
-use mathlib.Core.Path.{_≡_, refl, ap, _∙_}
+use mathlib.Core.Path.{_≡_, refl}
 use mathlib.Core.Bool.{Bool, true, false, not, cond, _&&_}
 use Prim.Native.Nat.{ℕ, zero, suc, _+_}
 use lib.Dec.{T, eqb}

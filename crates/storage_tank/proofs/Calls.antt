@@ -1,18 +1,17 @@
 -- Proves what the calls' callers may rely on (01, The four calls): a refused step hands back the tank and the report it was given, a tank that make accepts passes a step's
 -- checks 1 to 5, and the layers of positions are in range.
 use mathlib.Core.Path.{_≡_, refl, sym, ap, _∙_, subst}
-use mathlib.Core.List.{List, [], _∷_, _++_, append-nil}
-use mathlib.Core.Bool.{Bool, true, false, cond}
-use Prim.Native.Nat.{ℕ, zero, suc, _+_, _<_, _≤_}
+use mathlib.Core.List.{List, [], _++_}
+use mathlib.Core.Bool.{Bool, true}
+use Prim.Native.Nat.{ℕ, zero, suc, _+_, _<_}
 use native.Mathlib.Nat.{le-of-suc-le-suc, not-suc-le-zero}
 use native.Mathlib.Omega.{arith}
-use lib.Dec.{T}
 use lib.Ieee.Bits.{is-true}
-use lib.ListN.{length, getD, drop, replicate}
-use lib.Ieee.{Float, nan, le}
+use lib.ListN.{getD, drop, replicate}
+use lib.Ieee.{Float, nan}
 use lib.Ieee.Scale.{finite}
 use Rattle.numeric.specs.Double.{zero-f, whole, _⊛_}
-use Rattle.numeric.specs.Holds.{holds, at-holds}
+use Rattle.numeric.specs.Holds.{at-holds}
 use Rattle.numeric.specs.Whole.{layerOf}
 use Rattle.numeric.proofs.WholePart.{whole-below-bound}
 use Rattle.mixing.specs.Limits.{maxLayers}
@@ -21,12 +20,11 @@ use Rattle.storage_tank.specs.declared.TankDesign.{TankDesign}
 use Rattle.storage_tank.specs.declared.StorageTank.{StorageTank}
 use Rattle.storage_tank.specs.declared.Step.{Step}
 use Rattle.storage_tank.specs.declared.Report.{Report}
-use Rattle.storage_tank.specs.declared.Stepped.{Stepped}
 use Rattle.storage_tank.specs.Fixed.{Fixed, fixedOf, fixedIn, stateIn}
 use Rattle.storage_tank.specs.Checks.{firstRefusal, tankChecks, makeRefusal}
 use Rattle.storage_tank.specs.Work.{End, refused, done, work}
 use Rattle.storage_tank.specs.History.{designRefusal, start}
-use Rattle.storage_tank.specs.Calls.{made, madeOf, answer, stepped}
+use Rattle.storage_tank.specs.Calls.{made, answer, stepped}
 use Rattle.storage_tank.specs.Demand.{tankOf, holding}
 use Rattle.storage_tank.proofs.Works.{made-heaters, tank-passes}
 use Rattle.storage_tank.proofs.Demand.{fixed-is, made-is}

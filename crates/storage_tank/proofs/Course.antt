@@ -1,18 +1,17 @@
 -- Proves that a step's work takes the course that demand 3 states (01, Step; Turn).
 use mathlib.Core.Path.{_≡_, refl, sym, ap, _∙_}
-use mathlib.Core.Logic.{_⊎_, inl, inr, _≢_}
-use mathlib.Core.List.{List, [], _∷_, _++_, append-nil}
+use mathlib.Core.Logic.{inl, inr, _≢_}
+use mathlib.Core.List.{List, [], _∷_, append-nil}
 use mathlib.Core.Bool.{Bool, true, false, not}
 use Prim.Native.Nat.{ℕ, zero, suc, _<_}
 use native.Mathlib.Omega.{arith}
 use lib.Dec.{T}
-use lib.ListN.{length, getD, set}
+use lib.ListN.{getD}
 use lib.Seq.{getD-set-other}
 use lib.Ieee.{Float}
 use Rattle.mixing.specs.Rearrange.{rearrange}
-use Rattle.cylinder.specs.declared.Cylinder.{Cylinder}
 use Rattle.cylinder.specs.Layers.{layerVolumes}
-use Rattle.draw_off.specs.Event.{Event, EventMixing, unmixed, mixed, eventMixing, eventOf, eventNumber}
+use Rattle.draw_off.specs.Event.{Event, unmixed, mixed, eventMixing, eventOf}
 use Rattle.storage_tank.specs.declared.TankDesign.{TankDesign}
 use Rattle.storage_tank.specs.declared.Step.{Step}
 use Rattle.storage_tank.specs.Fixed.{State, fixedOf}
@@ -20,7 +19,7 @@ use Rattle.storage_tank.specs.Order.{workingOrder}
 use Rattle.storage_tank.specs.Checks.{stepRefusal}
 use Rattle.storage_tank.specs.Work.{Progress, Turn, End, refused, done, Work, resume, andThen, endBy, event, events, wantedVolumes, withAverage, afterEvent, turnOf, afterTurn, heaterTurn, turns, allTurns, opening, closed, closing, begin, work}
 use Rattle.storage_tank.specs.Members.{All, Distinct}
-use Rattle.storage_tank.specs.Course.{cylinderOf, EventOf, TurnOf, eventNext, eventEnds, turnNext, turnEnds, Ran, Events, Turns, Course}
+use Rattle.storage_tank.specs.Course.{cylinderOf, EventOf, TurnOf, eventNext, eventEnds, turnNext, turnEnds, Ran, Events, Course}
 use Rattle.storage_tank.proofs.Members.{all-map, all-both}
 use Rattle.storage_tank.proofs.Order.{heaters-many, order-below, order-once}
 use Rattle.storage_tank.proofs.Steps.{Reach, end-reach}

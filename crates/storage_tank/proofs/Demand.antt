@@ -1,18 +1,17 @@
 -- Proves demand 3: of what make and every list of calls answer, and of whatever was answered where each answer meets its call's promise (00, demand 3; 01, Turn).
-use mathlib.Core.Path.{_≡_, refl, sym, ap, ap₂, _∙_, subst}
+use mathlib.Core.Path.{_≡_, refl, sym, ap, ap₂, _∙_}
 use mathlib.Core.Logic.{_↔_}
 use mathlib.Core.List.{List, [], _∷_}
 use mathlib.Core.Bool.{Bool, true, false, not, _&&_, cond}
-use Prim.Native.Nat.{ℕ, zero, suc, _+_, _<_, _≤_}
+use Prim.Native.Nat.{ℕ, zero, suc, _<_, _≤_}
 use native.Mathlib.Nat.{le-of-suc-le-suc, not-suc-le-zero}
 use native.Mathlib.Omega.{arith}
 use lib.Dec.{T, eqb, eqb→eq, ltb, lt→ltb, ltb→lt, nltb→le, lit<}
 use lib.ListN.{length, getD, take, replicate}
-use lib.Ieee.{Float, nan}
 use lib.Ieee.Fits.{and-l, and-r, and-i, eq→eqb}
 use lib.Ieee.Bits.{is-true}
 use Rattle.numeric.specs.Double.{zero-f}
-use Rattle.numeric.specs.Tabulate.{tabulate}
+use Rattle.numeric.specs.Tabulate.{tabulate, tabulate-same}
 use Rattle.draw_off.specs.Event.{Event}
 use Rattle.heating.specs.SwitchLaws.{latched}
 use Rattle.storage_tank.specs.declared.Heater.{Heater}
@@ -29,11 +28,11 @@ use Rattle.storage_tank.specs.declared.Step.{Step}
 use Rattle.storage_tank.specs.Work.{Progress, Turn, End, refused, done, Work, stop, lineOf, zeroLine, opening, begin, work}
 use Rattle.storage_tank.specs.History.{Call, step, designRefusal, start, carry, carried, workOf, run, history}
 use Rattle.storage_tank.specs.Calls.{zeroHeater, cleanHeater, fittedHeaters, madeOf, made, answer, stepped, answered, answers}
-use Rattle.storage_tank.specs.Members.{All, Some}
+use Rattle.storage_tank.specs.Members.{All}
 use Rattle.storage_tank.specs.Course.{accepted, numberOf}
 use Rattle.storage_tank.specs.Demand.{InTurn, OrderedOrNine, EventOrderedOrNine, passed, suppliedIn, RightlySupplied, noWork, noAnswer, noCall, OnSince, lastTank, tankOf, holding, CourseOf, FittedAsGiven, Demand3, Promises}
 use Rattle.storage_tank.proofs.Latch.{latchedBy, latched-since}
-use Rattle.storage_tank.proofs.Members.{any, any→Some, Some→any, all-map, all-both, at-tabulate, past-tabulate, tabulate-same}
+use Rattle.storage_tank.proofs.Members.{any, any→Some, Some→any, all-map, all-both, at-tabulate, past-tabulate}
 use Rattle.storage_tank.proofs.Order.{in-working-order}
 use Rattle.storage_tank.proofs.Steps.{Reach, Meets, Law, ofHeater, began, ended, nothing-latched}
 use Rattle.storage_tank.proofs.TurnFacts.{Right}
@@ -110,7 +109,7 @@ unfolding placedHeaters
 fixed-is m st l =
     ap (λ (hs : List Placed). record { cylinder = fixedOf m .cylinder; heaters = hs })
     (tabulate-same (λ (h : ℕ). placed (getD (tankOf m st .fitted) h noHeater)) (λ (h : ℕ). placed (getD (m .fitted) h noHeater)) (m .heaters) 0
-    (λ h k. ap placed (fitted-given (m .heaters) h (m .fitted) (omega arith) (omega arith)) ∙ clean-placed (getD (m .fitted) h noHeater)))
+    (λ h l' k. ap placed (fitted-given (m .heaters) h (m .fitted) (omega arith) (omega arith)) ∙ clean-placed (getD (m .fitted) h noHeater)))
 
 -- ---- one call on a tank that holds the state st: it answers by the work from make's arguments, and hands back a tank that holds the state carried on
 

@@ -1,14 +1,14 @@
 -- Proves how the checks 1 to 8 are worked one after the other (01, The four calls): the first that does not pass decides, and the checks of a tank's heaters are those of its array.
 use mathlib.Core.Path.{_≡_, refl, sym, ap, _∙_}
 use mathlib.Core.List.{List, [], _∷_, _++_}
-use mathlib.Core.Bool.{Bool, true, false, _&&_}
+use mathlib.Core.Bool.{Bool, _&&_}
 use Prim.Native.Nat.{ℕ, zero, suc, _+_, _<_, _≤_}
 use native.Mathlib.Omega.{arith}
 use lib.Dec.{leb, eqb, leb→le}
-use lib.ListN.{length, getD}
+use lib.ListN.{getD}
 use lib.Ieee.Scale.{finite}
 use lib.Ieee.Fits.{and-l, and-r}
-use Rattle.numeric.specs.Holds.{holds}
+use Rattle.numeric.specs.Holds.{holds, holds-same}
 use Rattle.mixing.specs.Limits.{maxLayers}
 use Rattle.cylinder.specs.declared.Cylinder.{Cylinder}
 use Rattle.cylinder.specs.Layers.{allFinite}
@@ -21,7 +21,7 @@ use Rattle.working_order.specs.Order.{maxHeaters}
 use Rattle.storage_tank.specs.Fixed.{placed, noHeater, notPlaced, placedHeaters, fixedOf, fixedIn, stateIn}
 use Rattle.storage_tank.specs.Checks.{unless, firstRefusal, fairHeater, layersCheck, numbersCheck, temperaturesCheck, tankChecks, stepChecks, feedCheck, pointsCheck, makeRefusal, stepRefusal}
 use Rattle.storage_tank.specs.Calls.{zeroTank, newTank, made, madeOf}
-use Rattle.storage_tank.proofs.Members.{length-tabulate, at-tabulate}
+use Rattle.storage_tank.proofs.Order.{many-placed, placed-at}
 use Rattle.storage_tank.proofs.Works.{unless-passes, tank-passes}
 
 -- ---- the first that does not pass
@@ -54,24 +54,11 @@ parts-pass (suc n ∷ xs) ys e = absurd (omega arith)
 abbrev pub fairAt : List Heater → ℕ → Bool
 fairAt fitted h = fairHeater (placed (getD fitted h noHeater))
 
-holds-same : (p q : ℕ → Bool) (k i : ℕ) → ((j : ℕ) → i ≤ j → j < i + k → p j ≡ q j) → holds p k i ≡ holds q k i
-unfolding holds
-holds-same p q zero i h = refl
-holds-same p q (suc k) i h = rw (h i (omega arith) (omega arith), holds-same p q k (i + 1) (λ j l u. h j (omega arith) (omega arith)))
-
 abbrev pub firstChecks : Cylinder → ℕ → List ℕ
 firstChecks c n = layersCheck c ∷ unless (leb n maxHeaters) 2 ∷ numbersCheck c ∷ []
 
 abbrev pub lastChecks : Cylinder → ℕ → List Heater → Bool → List ℕ
 lastChecks c n fitted temps = temperaturesCheck c temps ∷ unless (holds (fairAt fitted) n 0) 5 ∷ []
-
-pub many-placed : (n : ℕ) (fitted : List Heater) → length (placedHeaters n fitted) ≡ n
-unfolding placedHeaters
-many-placed n fitted = length-tabulate (λ (h : ℕ). placed (getD fitted h noHeater)) n 0
-
-pub placed-at : (n : ℕ) (fitted : List Heater) (h : ℕ) → h < n → getD (placedHeaters n fitted) h notPlaced ≡ placed (getD fitted h noHeater)
-unfolding placedHeaters
-placed-at n fitted h l = at-tabulate (λ (k : ℕ). placed (getD fitted k noHeater)) n h notPlaced l
 
 pub checks-of : (c : Cylinder) (n : ℕ) (fitted : List Heater) (temps : Bool) → tankChecks (record { cylinder = c; heaters = placedHeaters n fitted }) temps ≡ firstChecks c n ++ lastChecks c n fitted temps
 checks-of c n fitted temps =

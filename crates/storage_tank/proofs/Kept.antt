@@ -1,8 +1,8 @@
 -- Proves that a step keeps the places past its layers and the lengths of its arrays, so that the unused places of every tank handed back are zero (01, The four calls:
 -- unused places are zero, but a step keeps the tank's).
-use mathlib.Core.Path.{_≡_, refl, sym, ap, _∙_, subst}
+use mathlib.Core.Path.{_≡_, refl, sym, _∙_, subst}
 use mathlib.Core.List.{List, [], _∷_, _++_}
-use mathlib.Core.Bool.{Bool, false}
+use mathlib.Core.Bool.{false}
 use Prim.Native.Nat.{ℕ, zero, suc, _≤_, _<_}
 use native.Mathlib.Nat.{le-of-suc-le-suc, not-suc-le-zero}
 use lib.ListN.{length, getD, drop, replicate, length-set}
@@ -21,7 +21,7 @@ use Rattle.storage_tank.specs.declared.Step.{Step}
 use Rattle.storage_tank.specs.Fixed.{Fixed, State, immersionOf, fixedIn, stateIn}
 use Rattle.storage_tank.specs.Order.{workingOrder}
 use Rattle.storage_tank.specs.Checks.{pointsOf, stepRefusal}
-use Rattle.storage_tank.specs.Work.{Progress, Turn, End, refused, done, Work, resume, andThen, endBy, events, wantedVolumes, withAverage, turnOf, afterTurn, heaterTurn, turns, allTurns, opening, closed, begin, work}
+use Rattle.storage_tank.specs.Work.{Progress, Turn, End, refused, done, Work, resume, andThen, endBy, events, wantedVolumes, withAverage, turnOf, afterTurn, heaterTurn, turns, opening, closed, begin, work}
 use Rattle.storage_tank.specs.History.{Call, step, designRefusal}
 use Rattle.storage_tank.specs.Calls.{made, madeOf, answer, stepped, answered, answers}
 use Rattle.storage_tank.specs.Demand.{noAnswer}

@@ -1,5 +1,5 @@
 -- Proves facts on lists that demand 3's proof cites: of all members and of some, of numbers in a list, and of tabulated lists.
-use mathlib.Core.Path.{_≡_, refl, sym, ap, ap₂, _∙_, subst}
+use mathlib.Core.Path.{_≡_, refl, sym, ap, _∙_, subst}
 use mathlib.Core.Logic.{_⊎_, inl, inr, _≢_}
 use mathlib.Core.List.{List, [], _∷_, _++_}
 use mathlib.Core.Bool.{Bool, true, false, _||_, cond}
@@ -7,7 +7,6 @@ use Prim.Native.Nat.{ℕ, zero, suc, _+_, _<_, _≤_}
 use native.Mathlib.Omega.{arith}
 use native.Mathlib.Decide.{ℕ-discrete}
 use native.Mathlib.Nat.{le-of-suc-le-suc, not-suc-le-zero}
-use native.Mathlib.Numerals.{add-one}
 use lib.Arith.{lt-of-le-ne}
 use lib.Dec.{T}
 use lib.ListN.{length, getD}
@@ -128,11 +127,6 @@ unfolding tabulate
 past-tabulate g zero i h d l = refl
 past-tabulate g (suc n) i zero d l = absurd (not-suc-le-zero l)
 past-tabulate g (suc n) i (suc h) d l = past-tabulate g n (i + 1) h d (le-of-suc-le-suc l)
-
-pub tabulate-same : {A : Type 0} (f g : ℕ → A) (n i : ℕ) → ((k : ℕ) → k < i + n → f k ≡ g k) → tabulate f n i ≡ tabulate g n i
-unfolding tabulate
-tabulate-same f g zero i h = refl
-tabulate-same f g (suc n) i h = ap₂ (λ y ys. y ∷ ys) (h i (omega arith)) (tabulate-same f g n (i + 1) (λ k l. h k (omega arith)))
 
 -- ---- the numbers from i on
 

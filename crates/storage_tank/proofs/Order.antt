@@ -1,5 +1,5 @@
 -- Proves that the order of work has each heater once and nothing else, each worked before the next (01, Tank).
-use mathlib.Core.Path.{_≡_, refl, sym, ap, subst}
+use mathlib.Core.Path.{_≡_, sym, subst}
 use mathlib.Core.Logic.{_⊎_, inl, inr, _≢_}
 use mathlib.Core.List.{List, [], _∷_}
 use mathlib.Core.Bool.{Bool, true, false, not, cond}
@@ -9,11 +9,12 @@ use lib.Dec.{T}
 use lib.ListN.{length, getD}
 use lib.Ieee.{le}
 use Rattle.numeric.specs.Tabulate.{tabulate}
+use Rattle.storage_tank.specs.declared.Heater.{Heater}
 use Rattle.storage_tank.specs.declared.TankDesign.{TankDesign}
-use Rattle.storage_tank.specs.Fixed.{Placed, Fixed, placed, noHeater, notPlaced, placedHeaters, heaterOf, fixedOf}
+use Rattle.storage_tank.specs.Fixed.{Fixed, placed, noHeater, notPlaced, placedHeaters, heaterOf, fixedOf}
 use Rattle.working_order.specs.Order.{indices, insert, insertionSort}
 use Rattle.storage_tank.specs.Order.{comesBefore, workingOrder}
-use Rattle.storage_tank.specs.Members.{All, Some, Distinct, ChainFrom, Chain}
+use Rattle.storage_tank.specs.Members.{All, Distinct, ChainFrom, Chain}
 use Rattle.storage_tank.specs.Course.{positionOf, WorkedBefore, InWorkingOrder}
 use Rattle.storage_tank.proofs.Members.{by-cond, In, length-tabulate, at-tabulate, numbers-above, numbers-distinct, indices-below, in-indices}
 
@@ -99,15 +100,22 @@ chain-map : (D : ℕ → Type 0) (R S : ℕ → ℕ → Type 0) → ((x y : ℕ)
 chain-map D R S g [] ds f = tt
 chain-map D R S g (y ∷ ys) ds f = chain-from-map D R S g y ys (ds .0) (ds .1) f
 
--- ---- the heaters that make was given
+-- ---- the heaters of an array
 
-pub heater-is : (m : TankDesign) (h : ℕ) → h < m .heaters → heaterOf (fixedOf m) h ≡ placed (getD (m .fitted) h noHeater)
+pub many-placed : (n : ℕ) (fitted : List Heater) → length (placedHeaters n fitted) ≡ n
 unfolding placedHeaters
-heater-is m h l = at-tabulate (λ (k : ℕ). placed (getD (m .fitted) k noHeater)) (m .heaters) h notPlaced l
+many-placed n fitted = length-tabulate (λ (h : ℕ). placed (getD fitted h noHeater)) n 0
+
+pub placed-at : (n : ℕ) (fitted : List Heater) (h : ℕ) → h < n → getD (placedHeaters n fitted) h notPlaced ≡ placed (getD fitted h noHeater)
+unfolding placedHeaters
+placed-at n fitted h l = at-tabulate (λ (k : ℕ). placed (getD fitted k noHeater)) n h notPlaced l
+
+-- those that make was given
+pub heater-is : (m : TankDesign) (h : ℕ) → h < m .heaters → heaterOf (fixedOf m) h ≡ placed (getD (m .fitted) h noHeater)
+heater-is m h l = placed-at (m .heaters) (m .fitted) h l
 
 pub heaters-many : (m : TankDesign) → length (fixedOf m .heaters) ≡ m .heaters
-unfolding placedHeaters
-heaters-many m = length-tabulate (λ (k : ℕ). placed (getD (m .fitted) k noHeater)) (m .heaters) 0
+heaters-many m = many-placed (m .heaters) (m .fitted)
 
 -- ---- the order of work
 

@@ -1,5 +1,5 @@
 -- Proves how the parts of a step's code work out its answer (01, Step): the checks, the events, the turns, and what the end looks at, each of which may refuse it.
-use mathlib.Core.Path.{_≡_, refl, sym, ap, _∙_, subst}
+use mathlib.Core.Path.{_≡_, refl, sym, ap, _∙_}
 use mathlib.Core.List.{List, [], _∷_}
 use mathlib.Core.Bool.{Bool, true, false, cond, _&&_}
 use Prim.Native.Nat.{ℕ, zero, suc, _-_, _≤_}
@@ -8,7 +8,7 @@ use lib.Dec.{leb, eqb, leb→le}
 use lib.ListN.{getD, replicate}
 use lib.Ieee.{Float, nan}
 use lib.Ieee.Scale.{finite}
-use lib.Ieee.Fits.{and-l, and-r}
+use lib.Ieee.Fits.{and-l}
 use Rattle.numeric.specs.Double.{dbl, _⊛_, _⊘_, zero-f}
 use Rattle.numeric.specs.Close.{wideClose}
 use Rattle.mixing.specs.Limits.{maxLayers}
@@ -23,13 +23,13 @@ use Rattle.storage_tank.specs.declared.Step.{Step}
 use Rattle.storage_tank.specs.declared.Report.{Report}
 use Rattle.storage_tank.specs.declared.Stepped.{Stepped}
 use Rattle.storage_tank.specs.declared.turns.Heated.{Heated}
-use Rattle.storage_tank.specs.Fixed.{Fixed, State, fixedIn, stateIn}
+use Rattle.storage_tank.specs.Fixed.{Fixed, fixedIn, stateIn}
 use Rattle.storage_tank.specs.Order.{workingOrder}
-use Rattle.storage_tank.specs.Checks.{firstRefusal, stepRefusal}
-use Rattle.storage_tank.specs.Work.{Progress, Turn, End, refused, done, Work, resume, andThen, endBy, withDraw, afterEvent, event, events, wantedVolumes, averageOf, withAverage, turnOf, heaterTurn, turns, allTurns, opening, recoverable, closed, begin, work}
+use Rattle.storage_tank.specs.Checks.{stepRefusal}
+use Rattle.storage_tank.specs.Work.{Progress, Turn, End, refused, done, resume, andThen, endBy, withDraw, afterEvent, event, events, wantedVolumes, averageOf, withAverage, turnOf, heaterTurn, turns, allTurns, opening, recoverable, closed, begin, work}
 use Rattle.storage_tank.specs.Calls.{answer, stepped}
 use Rattle.storage_tank.specs.Lent.{settingsOnly, noTurns, progressOf, noTotals, acceptedStep}
-use Rattle.storage_tank.proofs.Works.{unless-passes, tank-passes}
+use Rattle.storage_tank.proofs.Works.{unless-passes}
 use Rattle.storage_tank.proofs.FirstRefusal.{counts-pass, step-parts}
 
 -- ---- the events

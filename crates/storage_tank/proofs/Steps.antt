@@ -3,21 +3,20 @@
 use mathlib.Core.Path.{_≡_, refl, sym, ap, _∙_, subst}
 use mathlib.Core.Logic.{_⊎_, inl, inr, _≢_}
 use mathlib.Core.List.{List, [], _∷_, _++_}
-use mathlib.Core.Bool.{Bool, true, false, not, _&&_, _||_, cond, or-false, and-false}
-use Prim.Native.Nat.{ℕ, zero, suc, _+_, _-_, _<_, _≤_}
+use mathlib.Core.Bool.{Bool, true, false, _&&_, _||_, or-false}
+use Prim.Native.Nat.{ℕ, zero, suc, _+_, _<_}
 use native.Mathlib.Omega.{arith}
 use native.Mathlib.Decide.{ℕ-discrete}
-use lib.Dec.{T, eqb, eqb→eq, eqb-refl, lit<}
+use lib.Dec.{T, eqb, eqb→eq, eqb-refl}
 use lib.ListN.{length, getD, set, length-set}
 use lib.Seq.{getD-set-same, getD-set-other}
-use lib.Ieee.{Float, nan, le, lt, eq}
+use lib.Ieee.{Float}
 use lib.Ieee.Bits.{is-true}
 use Rattle.mixing.specs.Rearrange.{Mixing, sorted, unsorted, rearrange}
 use Rattle.mixing.proofs.Order.{accepted-rises}
 use Rattle.draw_off.specs.Event.{Event, EventMixing, unmixed, mixed}
 use Rattle.heating.specs.Switch.{atOrUnderLower, upperMissingOrReached}
 use Rattle.heating.specs.SwitchLaws.{latched}
-use Rattle.storage_tank.specs.declared.HeaterLine.{HeaterLine}
 use Rattle.storage_tank.specs.Work.{Progress, Turn, End, refused, done, Work, resume, andThen, endBy, lineOf, zeroLine, closed, closing}
 use Rattle.storage_tank.specs.Members.{All}
 use Rattle.storage_tank.specs.Demand.{Nondecreasing, OrderedOrNine, EventOrderedOrNine}

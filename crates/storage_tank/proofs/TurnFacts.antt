@@ -1,30 +1,28 @@
 -- Proves that a turn is what demand 3 says of it (01, Turn): its facts by make's and the step's arguments, its supply, and what it does to flags and lines.
-use mathlib.Core.Path.{_≡_, refl, sym, ap, _∙_}
+use mathlib.Core.Path.{_≡_, refl, ap}
 use mathlib.Core.List.{List, [], _∷_}
-use mathlib.Core.Bool.{Bool, true, false, not, cond}
-use Prim.Native.Nat.{ℕ, zero, suc, _<_}
+use mathlib.Core.Bool.{Bool, true, false, not}
+use Prim.Native.Nat.{ℕ, _<_}
 use native.Mathlib.Omega.{arith}
 use lib.Dec.{T, lit<}
 use lib.ListN.{length, getD, set}
 use lib.Ieee.{Float, nan, eq}
 use Rattle.numeric.specs.Double.{zero-f}
 use Rattle.numeric.specs.Whole.{layerOf}
-use Rattle.mixing.specs.Rearrange.{Mixing, sorted, unsorted, rearrange}
-use Rattle.heating.specs.declared.SetPoints.{SetPoints}
-use Rattle.heating.specs.Switch.{switchOn, switchOff}
-use Rattle.heating.specs.Heat.{offer, heated}
+use Rattle.mixing.specs.Rearrange.{Mixing, sorted, unsorted}
+use Rattle.heating.specs.Switch.{switchOn}
 use Rattle.heating.specs.Losses.{surplus}
 use Rattle.heating.specs.declared.turn.Immersion.{Immersion}
-use Rattle.heating.specs.Turn.{Turned, input, heatAndMix, adjustedInput, afterMixing, turn, turnFinite, turnNumber}
+use Rattle.heating.specs.Turn.{Turned, input, heatAndMix, adjustedInput, afterMixing, turn, turnNumber}
 use Rattle.heating.specs.SwitchLaws.{latched, switches-latch}
 use Rattle.heating.specs.SupplyLaws.{supply-at-most, supply-off}
 use Rattle.storage_tank.specs.declared.TankDesign.{TankDesign}
 use Rattle.storage_tank.specs.declared.Step.{Step}
 use Rattle.working_order.specs.Order.{maxHeaters}
-use Rattle.storage_tank.specs.Fixed.{Placed, heaterOf, immersionOf, fixedOf}
+use Rattle.storage_tank.specs.Fixed.{Placed, fixedOf}
 use Rattle.storage_tank.specs.Checks.{isPositive, notNegative, pointsOf}
-use Rattle.storage_tank.specs.Work.{Progress, Turn, End, refused, done, endBy, turnOf, lineOf, afterTurn, heaterTurn}
-use Rattle.storage_tank.specs.Course.{cylinderOf, volumesOf, ratedOf, heaterLayer, thermostatLayer, maxEnergy, TurnOf, FiguresOf}
+use Rattle.storage_tank.specs.Work.{Progress, Turn, endBy, turnOf, afterTurn, heaterTurn}
+use Rattle.storage_tank.specs.Course.{cylinderOf, volumesOf, ratedOf, heaterLayer, thermostatLayer, TurnOf}
 use Rattle.storage_tank.specs.Demand.{passed, RightlySupplied}
 use Rattle.storage_tank.proofs.Order.{heater-is}
 use Rattle.storage_tank.proofs.Steps.{Sorted, rearrange-sorted, end-reach, Meets, began, ended, Law, first-law}

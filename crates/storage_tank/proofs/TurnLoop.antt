@@ -1,20 +1,19 @@
 -- Proves how the loop over a step's turns works out the definition of the turns (01, Step; Turn): one turn more, or the turn that ends the step.
-use mathlib.Core.Path.{_≡_, refl, sym, ap, _∙_, subst}
+use mathlib.Core.Path.{_≡_, refl, sym, ap, _∙_}
 use mathlib.Core.List.{List, [], _∷_}
-use mathlib.Core.Bool.{Bool, false}
+use mathlib.Core.Bool.{false}
 use Prim.Native.Nat.{ℕ, zero, suc, _+_, _<_, _≤_}
 use native.Mathlib.Omega.{arith}
 use native.Mathlib.Numerals.{add-one}
 use lib.ListN.{getD, length, take, length-take, drop-of-length-le}
 use lib.Seq.{slice, slice-cons}
-use lib.Ieee.{Float, nan, le}
+use lib.Ieee.{Float, nan}
 use Rattle.numeric.specs.Tabulate.{tabulate}
 use Rattle.numeric.specs.Whole.{layerOf}
 use Rattle.cylinder.specs.declared.Cylinder.{Cylinder}
 use Rattle.cylinder.specs.Layers.{layerVolumes}
 use Rattle.draw_off.specs.declared.Totals.{Totals}
 use Rattle.draw_off.specs.Event.{Event}
-use Rattle.heating.specs.declared.SetPoints.{SetPoints}
 use Rattle.heating.specs.Turn.{Turned, turn, turnNumber}
 use Rattle.working_order.specs.Order.{maxHeaters, notAbove, risingOrder}
 use Rattle.working_order.proofs.Same.{rising-same}
@@ -22,13 +21,13 @@ use Rattle.storage_tank.specs.declared.Heater.{Heater}
 use Rattle.storage_tank.specs.declared.Setting.{Setting}
 use Rattle.storage_tank.specs.declared.Step.{Step}
 use Rattle.storage_tank.specs.declared.turns.Heated.{Heated}
-use Rattle.storage_tank.specs.Fixed.{Placed, Fixed, placed, noHeater, placedHeaters, heaterOf}
+use Rattle.storage_tank.specs.Fixed.{Placed, Fixed, noHeater, placedHeaters, heaterOf}
 use Rattle.storage_tank.specs.Order.{comesBefore, workingOrder}
 use Rattle.storage_tank.specs.Checks.{noSetting}
 use Rattle.storage_tank.specs.Work.{Progress, Turn, End, refused, done, Work, resume, andThen, endBy, turnOf, afterTurn, heaterTurn, turns}
 use Rattle.storage_tank.specs.Lent.{immersion, settingsOnly, afterHeat, TurnWorked, progressOf}
 use Rattle.storage_tank.proofs.Members.{at-tabulate}
-use Rattle.storage_tank.proofs.FirstRefusal.{many-placed, placed-at}
+use Rattle.storage_tank.proofs.Order.{many-placed, placed-at}
 
 -- ---- what follows an end by a number
 

@@ -1,31 +1,30 @@
 -- Proves of a whole step's work what Steps.antt states (01, Step): its mixings, its supplies, and the flags and lines that it leaves.
-use mathlib.Core.Path.{_≡_, refl, sym, ap, _∙_, subst}
+use mathlib.Core.Path.{_≡_, refl, sym, _∙_, subst}
 use mathlib.Core.List.{List, [], _∷_, _++_, append-nil}
-use mathlib.Core.Bool.{Bool, true, false, not, _&&_, cond}
+use mathlib.Core.Bool.{Bool, true, false, _&&_}
 use Prim.Native.Nat.{ℕ, zero, suc, _+_, _<_, _≤_}
 use native.Mathlib.Omega.{arith}
 use lib.Dec.{T, leb, leb→le, lit<}
-use lib.ListN.{length, getD}
-use lib.Ieee.{Float, lt}
+use lib.ListN.{length}
+use lib.Ieee.{Float}
 use lib.Ieee.Scale.{finite}
 use lib.Ieee.Bits.{is-true}
 use lib.Ieee.Fits.{and-l, and-r}
 use Rattle.numeric.specs.Holds.{holds, holds-at}
 use Rattle.mixing.specs.Limits.{maxLayers}
-use Rattle.mixing.specs.Rearrange.{Mixing, sorted, unsorted, rearrange}
-use Rattle.cylinder.specs.declared.Cylinder.{Cylinder}
+use Rattle.mixing.specs.Rearrange.{sorted, unsorted}
 use Rattle.cylinder.specs.Layers.{allFinite}
 use Rattle.draw_off.specs.Event as Event
 use Rattle.draw_off.specs.Event.{Event, EventMixing, unmixed, mixed, eventMixing, eventOf, eventNumber}
 use Rattle.storage_tank.specs.declared.TankDesign.{TankDesign}
 use Rattle.storage_tank.specs.declared.Step.{Step}
 use Rattle.working_order.specs.Order.{maxHeaters}
-use Rattle.storage_tank.specs.Fixed.{Placed, Fixed, State, placed, heaterOf, fixedOf}
+use Rattle.storage_tank.specs.Fixed.{Placed, Fixed, State, heaterOf, fixedOf}
 use Rattle.storage_tank.specs.Order.{workingOrder}
 use Rattle.storage_tank.specs.Checks.{firstRefusal, unless, isPositive, notNegative, isPosition, fairHeater, tankChecks, stepChecks, makeRefusal, stepRefusal}
-use Rattle.storage_tank.specs.Work.{Progress, Turn, End, refused, done, Work, andThen, endBy, event, events, wantedVolumes, withAverage, heaterTurn, turns, allTurns, afterEvent, opening, begin, work}
+use Rattle.storage_tank.specs.Work.{Progress, Turn, Work, andThen, endBy, event, events, wantedVolumes, withAverage, heaterTurn, turns, allTurns, afterEvent, opening, begin, work}
 use Rattle.storage_tank.specs.Members.{All, Distinct}
-use Rattle.storage_tank.specs.Course.{cylinderOf, ratedOf}
+use Rattle.storage_tank.specs.Course.{cylinderOf}
 use Rattle.storage_tank.specs.Demand.{EventOrderedOrNine}
 use Rattle.storage_tank.proofs.Members.{all-map}
 use Rattle.storage_tank.proofs.Order.{heater-is, heaters-many, order-below, order-once}

@@ -4,7 +4,7 @@ use mathlib.Core.Path.{_≡_}
 use mathlib.Core.Logic.{_⊎_}
 use mathlib.Core.List.{List, [], _∷_}
 use mathlib.Core.Bool.{Bool, true, false, not, cond}
-use Prim.Native.Nat.{ℕ, zero, suc, _≤_, _<_}
+use Prim.Native.Nat.{ℕ, _<_}
 use lib.Dec.{T}
 use lib.ListN.{getD}
 use lib.Ieee.{Float, nan, le}
@@ -17,7 +17,7 @@ use Rattle.cylinder.specs.declared.Cylinder.{Cylinder}
 use Rattle.cylinder.specs.Layers.{layerVolumes}
 use Rattle.draw_off.specs.Draw.{extract}
 use Rattle.draw_off.specs.Refill.{refill}
-use Rattle.draw_off.specs.Event.{EventMixing, unmixed, mixed, Event, eventNumber}
+use Rattle.draw_off.specs.Event.{unmixed, mixed, Event, eventNumber}
 use Rattle.heating.specs.Switch.{switchOn, switchOff}
 use Rattle.heating.specs.Heat.{offer, heated}
 use Rattle.heating.specs.Losses.{tempsAfter, chargedAfter, surplus, adjusted, losses}

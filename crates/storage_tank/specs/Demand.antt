@@ -19,7 +19,7 @@ use Rattle.storage_tank.specs.declared.Stepped.{Stepped}
 use Rattle.storage_tank.specs.Fixed.{State, noHeater, fixedOf}
 use Rattle.storage_tank.specs.Order.{workingOrder}
 use Rattle.draw_off.specs.Event.{EventMixing, unmixed, mixed, Event}
-use Rattle.storage_tank.specs.Work.{Turn, End, refused, done, Work, stop, lineOf, zeroLine}
+use Rattle.storage_tank.specs.Work.{Turn, End, refused, Work, stop, lineOf, zeroLine}
 use Rattle.storage_tank.specs.History.{Call, step, designRefusal, start, carried, history}
 use Rattle.storage_tank.specs.Calls.{zeroHeater, cleanHeater, fittedHeaters, zeroTank, answered}
 use Rattle.storage_tank.specs.Members.{All, Some}

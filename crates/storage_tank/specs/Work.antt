@@ -1,7 +1,7 @@
 -- States one step's work (01, Step; Turn; refusals 9 and 10) from the fixed numbers, the state and the step's arguments, and keeps its history: the events, the
 -- turns, and where it ended. The step's answer is made from that end (Calls.antt).
 use Prim.Native.Nat.{ℕ, zero, suc, _-_}
-use mathlib.Core.Bool.{Bool, true, false, cond, _&&_}
+use mathlib.Core.Bool.{Bool, false, cond, _&&_}
 use mathlib.Core.List.{List, [], _∷_, _++_}
 use lib.ListN.{getD, set, replicate}
 use lib.Ieee.{Float, nan}
