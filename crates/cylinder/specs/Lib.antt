@@ -1,1 +1,2 @@
+-- The definitions of a cylinder's layers.
 pub mod Layers

@@ -1,3 +1,4 @@
+-- The definitions of the draw events, in 01's order.
 pub mod Cold
 pub mod Draw
 pub mod Refill

@@ -1,5 +1,5 @@
--- Proves what the calls' callers may rely on (01, The four calls): a refused step hands back the tank and the report it was given, a tank that make accepts passes a step's
--- checks 1 to 5, and the layers of positions are in range.
+-- Proves what the calls' callers may rely on (01, The four calls): a refused step hands back the tank and the report it was given, and a tank that make accepts
+-- passes a step's checks 1 to 5.
 use mathlib.Core.Path.{_≡_, refl, sym, ap, _∙_, subst}
 use mathlib.Core.List.{List, [], _++_}
 use mathlib.Core.Bool.{Bool, true}
@@ -10,10 +10,8 @@ use lib.Ieee.Bits.{is-true}
 use lib.ListN.{getD, drop, replicate}
 use lib.Ieee.{Float, nan}
 use lib.Ieee.Scale.{finite}
-use Rattle.numeric.specs.Double.{zero-f, whole, _⊛_}
+use Rattle.numeric.specs.Double.{zero-f}
 use Rattle.numeric.specs.Holds.{at-holds}
-use Rattle.numeric.specs.Whole.{layerOf}
-use Rattle.numeric.proofs.WholePart.{whole-below-bound}
 use Rattle.mixing.specs.Limits.{maxLayers}
 use Rattle.cylinder.specs.Layers.{allFinite}
 use Rattle.storage_tank.specs.declared.TankDesign.{TankDesign}
@@ -38,12 +36,6 @@ refused-step t r a l = go (work (fixedIn t) (stateIn t) a .end) l
     go : (e : End) → 0 < answer t r e .number → (answer t r e .tank ≡ t) × (answer t r e .report ≡ r)
     go (refused n) l = unfold answer in (refl, refl)
     go (done s) l = absurd (unfold answer in (omega (arith, l)))
-
--- ---- layers in range
-
-pub layer-below : (position : Float) (layers : ℕ) → 0 < layers → layerOf position layers < layers
-unfolding layerOf
-layer-below position layers l = whole-below-bound layers (position ⊛ whole layers) l
 
 -- ---- what make accepts, a step's checks 1 to 5 pass
 

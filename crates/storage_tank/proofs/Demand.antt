@@ -30,7 +30,7 @@ use Rattle.storage_tank.specs.History.{Call, step, designRefusal, start,
 use Rattle.storage_tank.specs.Calls.{zeroHeater, cleanHeater, fittedHeaters, madeOf, made, answer, stepped, answered, answers}
 use Rattle.storage_tank.specs.Members.{All}
 use Rattle.storage_tank.specs.Course.{accepted, numberOf}
-use Rattle.storage_tank.specs.Demand.{InTurn, OrderedOrNine, EventOrderedOrNine, passed, suppliedIn, RightlySupplied, noWork, noAnswer, noCall, OnSince, lastTank, tankOf, holding, CourseOf, FittedAsGiven, Demand3, Promises}
+use Rattle.storage_tank.specs.Demand.{InTurn, OrderedOrNine, EventOrderedOrNine, passed, suppliedIn, RightlySupplied, noWork, noAnswer, noCall, OnSince, lastTank, tankOf, holding, CourseOf, AsGiven, FittedAsGiven, Demand3, Promises}
 use Rattle.storage_tank.proofs.Latch.{latchedBy, latched-since}
 use Rattle.storage_tank.proofs.Members.{any, any→Some, Some→any, all-map, all-both, at-tabulate, past-tabulate}
 use Rattle.storage_tank.proofs.Order.{in-working-order}
@@ -95,6 +95,23 @@ fitted-unused n h xs l = go (ltb h maxHeaters) (ltb→lt h maxHeaters) (nltb→l
     go : (b : Bool) → (T b → h < maxHeaters) → (T (not b) → maxHeaters ≤ h) → getD (tabulate (fittedAt n xs) maxHeaters 0) h zeroHeater ≡ zeroHeater
     go true k k' = at-tabulate (fittedAt n xs) maxHeaters h zeroHeater (k tt) ∙ ap (λ (b : Bool). cond b (cleanHeater (getD xs h noHeater)) zeroHeater) (not-below h n l)
     go false k k' = past-tabulate (fittedAt n xs) maxHeaters 0 h zeroHeater (k' tt)
+
+clean-as-given : (x y : Heater) → y ≡ cleanHeater x → AsGiven x y
+clean-as-given x y e = record {
+  rated = ap (λ (z : Heater). z .rated) e;
+  position = ap (λ (z : Heater). z .position) e;
+  has = ap (λ (z : Heater). z .«has_thermostat») e;
+  present = λ t. ap (λ (z : Heater). z .thermostat) e ∙ kept (x .«has_thermostat») t;
+  absent = λ t. ap (λ (z : Heater). z .thermostat) e ∙ dropped (x .«has_thermostat») t;
+}
+  where
+    kept : (b : Bool) → T b → cond b (x .thermostat) zero-f ≡ x .thermostat
+    kept true t = refl
+    kept false t = absurd t
+
+    dropped : (b : Bool) → T (not b) → cond b (x .thermostat) zero-f ≡ zero-f
+    dropped true t = absurd t
+    dropped false t = refl
 
 -- an absent thermostat's position is not looked at
 clean-placed : (x : Heater) → placed (cleanHeater x) ≡ placed x
@@ -274,7 +291,7 @@ module _ (m : TankDesign) where
   sound-start (suc n) f = record { long = refl; held = refl }
 
   fitted-as-given : (n : ℕ) → n ≡ 0 → m .heaters ≤ maxHeaters → FittedAsGiven m (holding m n (start m))
-  fitted-as-given zero z l = record { given = λ h k. fitted-given (m .heaters) h (m .fitted) k (omega arith); unused = λ h k. fitted-unused (m .heaters) h (m .fitted) k }
+  fitted-as-given zero z l = record { given = λ h k. clean-as-given _ _ (fitted-given (m .heaters) h (m .fitted) k (omega arith)); unused = λ h k. fitted-unused (m .heaters) h (m .fitted) k }
   fitted-as-given (suc n) z l = absurd (omega arith)
 
   pub demand3 : (r : Report) (calls : List Call) → Demand3 m calls (made m) (answers (made m .tank) r calls)

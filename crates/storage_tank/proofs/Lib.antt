@@ -1,3 +1,4 @@
+-- The proof of demand 3, the laws of the calls, and the lemmas that the code's proofs share.
 pub mod Latch
 pub mod Members
 pub mod Order

@@ -50,7 +50,8 @@ fairPoints (Lower l) = false
 fairPoints (Upper u) = finite u
 fairPoints (Both l u) = finite l && finite u && not (lt u l)
 
--- the initial temperature is finite, or the stored layers are
+-- ---- the checks of a tank, or of what one is made from
+
 abbrev pub layersCheck : Cylinder → ℕ
 layersCheck c = unless (leb 1 (c .layers) && leb (c .layers) maxLayers) 1
 
@@ -76,6 +77,8 @@ tankChecks f temps =
     ∷ temperaturesCheck (f .cylinder) temps
     ∷ placesCheck f
     ∷ []
+
+-- ---- the checks of a step's arguments
 
 abbrev pub noSetting : Setting
 noSetting = record { points = Neither }

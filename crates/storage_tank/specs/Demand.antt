@@ -11,6 +11,7 @@ use lib.Ieee.{Float, nan, le, eq}
 use Rattle.numeric.specs.Double.{zero-f}
 use Rattle.mixing.specs.Rearrange.{Mixing, sorted, unsorted}
 use Rattle.heating.specs.Switch.{atOrUnderLower, upperMissingOrReached}
+use Rattle.storage_tank.specs.declared.Heater.{Heater}
 use Rattle.storage_tank.specs.declared.TankDesign.{TankDesign}
 use Rattle.storage_tank.specs.declared.StorageTank.{StorageTank}
 use Rattle.storage_tank.specs.declared.Report.{Report}
@@ -21,7 +22,7 @@ use Rattle.storage_tank.specs.Order.{workingOrder}
 use Rattle.draw_off.specs.Event.{EventMixing, unmixed, mixed, Event}
 use Rattle.storage_tank.specs.Work.{Turn, End, refused, Work, stop, lineOf, zeroLine}
 use Rattle.storage_tank.specs.History.{Call, step, designRefusal, start, carried, history}
-use Rattle.storage_tank.specs.Calls.{zeroHeater, cleanHeater, fittedHeaters, zeroTank, answered}
+use Rattle.storage_tank.specs.Calls.{zeroHeater, fittedHeaters, zeroTank, answered}
 use Rattle.storage_tank.specs.Members.{All, Some}
 use Rattle.storage_tank.specs.Course.{accepted, numberOf, maxEnergy, InWorkingOrder, Course}
 
@@ -111,9 +112,17 @@ holding m (suc n) st = zeroTank
 abbrev pub CourseOf : TankDesign → State → Call → Work → Type 0
 CourseOf m st (step a) w = Course m st a w
 
--- an accepted make's tank has at each heater's place what it was given, an absent thermostat's position zero, and zeros past them
+-- the heater y is x as given, an absent thermostat's position zero
+pub record AsGiven (x y : Heater) : Type 0 where
+  pub rated : y .rated ≡ x .rated
+  pub position : y .position ≡ x .position
+  pub has : y .«has_thermostat» ≡ x .«has_thermostat»
+  pub present : T (x .«has_thermostat») → y .thermostat ≡ x .thermostat
+  pub absent : T (not (x .«has_thermostat»)) → y .thermostat ≡ zero-f
+
+-- an accepted make's tank has at each heater's place what it was given, and zeros past them
 pub record FittedAsGiven (m : TankDesign) (t : StorageTank) : Type 0 where
-  pub given : (h : ℕ) → h < m .heaters → getD (t .fitted) h noHeater ≡ cleanHeater (getD (m .fitted) h noHeater)
+  pub given : (h : ℕ) → h < m .heaters → AsGiven (getD (m .fitted) h noHeater) (getD (t .fitted) h noHeater)
   pub unused : (h : ℕ) → m .heaters ≤ h → getD (t .fitted) h zeroHeater ≡ zeroHeater
 
 -- m: make's arguments; calls: the calls' arguments; made: what make answered; xs: what each call answered

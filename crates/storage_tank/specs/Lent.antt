@@ -18,8 +18,8 @@ use Rattle.storage_tank.specs.declared.Step.{Step}
 use Rattle.storage_tank.specs.declared.StorageTank.{StorageTank}
 use Rattle.storage_tank.specs.declared.Stepped.{Stepped}
 use Rattle.storage_tank.specs.declared.turns.Heated.{Heated}
-use Rattle.storage_tank.specs.Fixed.{placed}
-use Rattle.storage_tank.specs.Work.{Progress, lineOf, zeroLine}
+use Rattle.storage_tank.specs.Fixed.{placed, placedHeaters}
+use Rattle.storage_tank.specs.Work.{Progress, lineOf, zeroLine, turns, endBy}
 
 -- the heater x in a tank of n layers
 abbrev pub immersion : ℕ → Heater → Immersion
@@ -59,6 +59,13 @@ progressOf t average temps charged s = record {
   losses = s .losses;
   lines = s .lines;
 }
+
+-- the turns of the heaters hs are worked from the layers and the charged losses at entry, whatever was drawn: what is answered, and what the lent arrays hold
+abbrev pub TurnsWorked : Cylinder → ℕ → List Heater → List Setting → List ℕ → List Float → List Float → List Bool → Heated → List Float → List Float → Type 0
+TurnsWorked c n fitted settings hs temps charged flags r temps' charged' =
+    (t : Totals) (average : Float)
+    → turns (record { cylinder = c; heaters = placedHeaters n fitted }) (settingsOnly settings) hs (progressOf t average temps charged (noTurns flags)) .end
+    ≡ endBy (r .number) (progressOf t average temps' charged' r)
 
 -- before the first event
 abbrev pub noTotals : Totals

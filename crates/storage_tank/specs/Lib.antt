@@ -1,3 +1,4 @@
+-- The tank's definitions in 01's order, the history that demand 3 speaks of, and demand 3 itself.
 pub mod Fixed
 pub mod Order
 pub mod Checks

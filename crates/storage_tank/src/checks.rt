@@ -1,15 +1,13 @@
 // The checks 1 to 8 of make and of a step, each answering its number, and 0 where it passes.
 ghost use mathlib.Core.Path.{_≡_};
-ghost use mathlib.Core.Bool.{Bool};
 ghost use Prim.Native.Nat.{ℕ, _≤_};
 ghost use lib.ListN.{getD};
 ghost use lib.Ieee.{nan};
 ghost use Rattle.numeric.specs.Holds.{holds};
-ghost use Rattle.mixing.specs.Limits.{maxLayers};
 ghost use Rattle.draw_off.specs.Lent.{maxEvents};
 ghost use Rattle.working_order.specs.Order.{maxHeaters};
 ghost use Rattle.storage_tank.specs.Fixed.{placed, noHeater};
-ghost use Rattle.storage_tank.specs.Checks.{isPositive, notNegative, isPosition, fairHeater, fairPoints, layersCheck, numbersCheck, noSetting};
+ghost use Rattle.storage_tank.specs.Checks.{notNegative, isPosition, fairHeater, fairPoints, numbersCheck, noSetting};
 use crate::Heater;
 use crate::Setting;
 use cylinder::Cylinder;

@@ -15,7 +15,6 @@ use crate::Step;
 use crate::Stepped;
 use crate::StorageTank;
 use crate::turns::Heated;
-use cylinder::Cylinder;
 use draw_off::Totals;
 use mixing::limits::MAX_LAYERS;
 

@@ -2,19 +2,16 @@
 ghost use mathlib.Core.Path.{_≡_};
 ghost use mathlib.Core.Bool.{false};
 ghost use Prim.Native.Nat.{ℕ, _≤_, _<_};
-ghost use lib.Ieee.{Float, nan};
 ghost use lib.ListN.{getD, length, take};
 ghost use Rattle.numeric.specs.Tabulate.{tabulate};
-ghost use Rattle.numeric.specs.Whole.{layerOf};
 ghost use Rattle.mixing.specs.Limits.{maxLayers};
 ghost use Rattle.cylinder.specs.Layers.{layerVolumes};
-ghost use Rattle.draw_off.specs.declared.Totals.{Totals};
-ghost use Rattle.heating.specs.Turn.{Turned, turn};
+ghost use Rattle.heating.specs.Turn.{turn};
 ghost use Rattle.working_order.specs.Order.{maxHeaters};
-ghost use Rattle.storage_tank.specs.Fixed.{placed, noHeater, placedHeaters};
+ghost use Rattle.storage_tank.specs.Fixed.{noHeater, placedHeaters};
 ghost use Rattle.storage_tank.specs.Order.{workingOrder};
-ghost use Rattle.storage_tank.specs.Work.{zeroLine, turns, endBy};
-ghost use Rattle.storage_tank.specs.Lent.{immersion, settingsOnly, noTurns, afterHeat, TurnWorked, progressOf};
+ghost use Rattle.storage_tank.specs.Work.{zeroLine};
+ghost use Rattle.storage_tank.specs.Lent.{immersion, noTurns, TurnWorked, TurnsWorked};
 use crate::Heater;
 use crate::HeaterLine;
 use crate::Setting;
@@ -125,7 +122,7 @@ fn heat_in_order(
     charged: &mut [f64; MAX_LAYERS],
 ) -> Heated
     requires { ⌜ (1 ≤ c .layers) × (c .layers ≤ maxLayers) × (n ≤ maxHeaters) × (now vol ≡ layerVolumes c) × (length (now order) ≡ maxHeaters) × ((k : ℕ) → k < n → getD (now order) k 0 < n) ⌝ }
-    ensures { λ r. ⌜ ((t : Totals) (average : Float) → turns (record { cylinder = c; heaters = placedHeaters n fitted }) (settingsOnly settings) (take n (now (order .entry))) (progressOf t average (now (temps .entry)) (now (charged .entry)) (noTurns flags)) .end ≡ endBy (r .number) (progressOf t average (now (temps .exit)) (now (charged .exit)) r)) ⌝ }
+    ensures { λ r. ⌜ TurnsWorked c n fitted settings (take n (now (order .entry))) (now (temps .entry)) (now (charged .entry)) flags r (now (temps .exit)) (now (charged .exit)) ⌝ }
 {
     let mut s = no_turns(flags);
     let mut k = 0;
@@ -154,7 +151,7 @@ pub fn heat_turns(
     charged: &mut [f64; MAX_LAYERS],
 ) -> Heated
     requires { ⌜ (1 ≤ c .layers) × (c .layers ≤ maxLayers) × (n ≤ maxHeaters) × (now vol ≡ layerVolumes c) ⌝ }
-    ensures { λ r. ⌜ ((t : Totals) (average : Float) → turns (record { cylinder = c; heaters = placedHeaters n fitted }) (settingsOnly settings) (workingOrder (record { cylinder = c; heaters = placedHeaters n fitted })) (progressOf t average (now (temps .entry)) (now (charged .entry)) (noTurns flags)) .end ≡ endBy (r .number) (progressOf t average (now (temps .exit)) (now (charged .exit)) r)) ⌝ }
+    ensures { λ r. ⌜ TurnsWorked c n fitted settings (workingOrder (record { cylinder = c; heaters = placedHeaters n fitted })) (now (temps .entry)) (now (charged .entry)) flags r (now (temps .exit)) (now (charged .exit)) ⌝ }
 {
     let positions = positions_of(fitted);
     let order = working_order::working_order(n, &positions);
