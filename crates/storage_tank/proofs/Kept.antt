@@ -5,7 +5,9 @@ use mathlib.Core.List.{List, [], _∷_, _++_}
 use mathlib.Core.Bool.{false}
 use Prim.Native.Nat.{ℕ, zero, suc, _≤_, _<_}
 use native.Mathlib.Nat.{le-of-suc-le-suc, not-suc-le-zero}
+use native.Mathlib.Omega.{arith}
 use lib.ListN.{length, getD, drop, replicate, length-set}
+use lib.Seq.{getD-set-other}
 use lib.Ieee.{Float}
 use Rattle.numeric.specs.Double.{zero-f}
 use Rattle.numeric.specs.Places.{Keeps, keeps-self, keeps-trans}
@@ -14,6 +16,7 @@ use Rattle.cylinder.specs.Layers.{layerVolumes}
 use Rattle.draw_off.specs.Event.{Event}
 use Rattle.draw_off.proofs.Keeps.{events-keep}
 use Rattle.heating.proofs.Keeps.{turn-keeps-temps}
+use Rattle.working_order.specs.Order.{maxHeaters}
 use Rattle.storage_tank.specs.declared.TankDesign.{TankDesign}
 use Rattle.storage_tank.specs.declared.StorageTank.{StorageTank}
 use Rattle.storage_tank.specs.declared.Report.{Report}
@@ -21,10 +24,12 @@ use Rattle.storage_tank.specs.declared.Step.{Step}
 use Rattle.storage_tank.specs.Fixed.{Fixed, State, immersionOf, fixedIn, stateIn}
 use Rattle.storage_tank.specs.Order.{workingOrder}
 use Rattle.storage_tank.specs.Checks.{pointsOf, stepRefusal}
-use Rattle.storage_tank.specs.Work.{Progress, Turn, End, refused, done, Work, resume, andThen, endBy, events, wantedVolumes, withAverage, turnOf, afterTurn, heaterTurn, turns, opening, closed, begin, work}
+use Rattle.storage_tank.specs.Work.{Progress, Turn, End, refused, done, Work, resume, andThen, endBy, events, wantedVolumes, withAverage, turnOf, zeroLine, afterTurn, heaterTurn, turns, opening, closed, begin, work}
 use Rattle.storage_tank.specs.History.{Call, step, designRefusal}
 use Rattle.storage_tank.specs.Calls.{made, madeOf, answer, stepped, answered, answers}
 use Rattle.storage_tank.specs.Demand.{noAnswer}
+use Rattle.storage_tank.specs.Members.{All}
+use Rattle.storage_tank.proofs.Order.{many-placed, order-below}
 use Rattle.storage_tank.proofs.StepWorked.{events-end}
 
 -- ---- what holds of where a work ended, if it was not refused
@@ -43,36 +48,43 @@ unfolding resume
 left-then R R' es us (refused n) f r k = tt
 left-then R R' es us (done s) f r k = k s r
 
--- the layers' array of st is kept past n places, and the flags keep their number
-pub record KeepsState (n : ℕ) (st : State) (s : Progress) : Type 0 where
+-- the layers' array of st is kept past n places, the flags keep their number, and the lines past k heaters are zero
+pub record KeepsState (n k : ℕ) (st : State) (s : Progress) : Type 0 where
   pub temps : Keeps n (st .temps) (s .temps)
   pub flags : length (s .flags) ≡ length (st .flags)
+  pub lines : (h : ℕ) → k ≤ h → getD (s .lines) h zeroLine ≡ zeroLine
+
+zero-lines : (k h : ℕ) → getD (replicate k zeroLine) h zeroLine ≡ zeroLine
+zero-lines zero h = refl
+zero-lines (suc k) zero = refl
+zero-lines (suc k) (suc h) = zero-lines k h
 
 module _ (f : Fixed) (a : Step) (st : State) where
   abbrev Kept : Progress → Type 0
-  Kept s = KeepsState (f .cylinder .layers) st s
+  Kept s = KeepsState (f .cylinder .layers) (length (f .heaters)) st s
 
-  turn-left : (h : ℕ) (s : Progress) → Kept s → Kept (afterTurn (turnOf f a h s) s)
+  turn-left : (h : ℕ) (s : Progress) → h < length (f .heaters) → Kept s → Kept (afterTurn (turnOf f a h s) s)
   unfolding afterTurn turnOf
-  turn-left h s k = record {
+  turn-left h s l k = record {
     temps = keeps-trans (f .cylinder .layers) (st .temps) (s .temps) _ (k .temps) (turn-keeps-temps (f .cylinder) (layerVolumes (f .cylinder)) (immersionOf f h) (pointsOf a h) (s .temps) (s .charged) (getD (s .flags) h false));
     flags = length-set (s .flags) h _ ∙ k .flags;
+    lines = λ j m. getD-set-other (s .lines) h j _ zeroLine (λ e. omega arith) ∙ k .lines j m;
   }
 
-  turns-left : (hs : List ℕ) (s : Progress) → Kept s → Left Kept (turns f a hs s .end)
+  turns-left : (hs : List ℕ) (s : Progress) → All (λ (h : ℕ). h < length (f .heaters)) hs → Kept s → Left Kept (turns f a hs s .end)
   unfolding turns andThen heaterTurn
-  turns-left [] s k = k
-  turns-left (h ∷ hs) s k = left-then Kept Kept _ _ _ _ (left-by Kept _ _ (turn-left h s k)) (λ s' k'. turns-left hs s' k')
+  turns-left [] s l k = k
+  turns-left (h ∷ hs) s l k = left-then Kept Kept _ _ _ _ (left-by Kept _ _ (turn-left h s (l .0) k)) (λ s' k'. turns-left hs s' (l .1) k')
 
   average-left : (s : Progress) → Kept s → Kept (withAverage (f .cylinder) s)
   unfolding withAverage
-  average-left s k = record { temps = k .temps; flags = k .flags }
+  average-left s k = record { temps = k .temps; flags = k .flags; lines = k .lines }
 
   events-left : Left Kept (events (f .cylinder) (a .feed) (wantedVolumes a) (opening st) .end)
   unfolding opening
   events-left =
       subst (λ (e : End). Left Kept e) (sym (events-end (f .cylinder) (a .feed) (wantedVolumes a) (opening st)))
-      (left-by Kept _ _ (record { temps = events-keep (f .cylinder) (a .feed) (wantedVolumes a) 0 (st .temps) _; flags = refl }))
+      (left-by Kept _ _ (record { temps = events-keep (f .cylinder) (a .feed) (wantedVolumes a) 0 (st .temps) _; flags = refl; lines = λ h l. zero-lines maxHeaters h }))
 
   closed-left : (e : End) → Left Kept e → Left Kept (closed e)
   unfolding closed
@@ -85,7 +97,43 @@ module _ (f : Fixed) (a : Step) (st : State) where
     where
       go : (n : ℕ) → Left Kept (begin f st a n .end)
       go (suc n) = unfold begin in tt
-      go zero = unfold begin andThen in (closed-left _ (left-then Kept Kept _ _ _ _ events-left (λ s k. turns-left (workingOrder f) (withAverage (f .cylinder) s) (average-left s k))))
+      go zero = unfold begin andThen in (closed-left _ (left-then Kept Kept _ _ _ _ events-left (λ s k. turns-left (workingOrder f) (withAverage (f .cylinder) s) (order-below f) (average-left s k))))
+
+-- a work that is refused is refused with a number above 0
+abbrev Above : End → Type 0
+Above (refused n) = 0 < n
+Above (done s) = Unit {0}
+
+above-by : (n : ℕ) (s : Progress) → Above (endBy n s)
+unfolding endBy
+above-by zero s = tt
+above-by (suc n) s = omega arith
+
+above-then : (es : List Event) (us : List Turn) (e : End) (f : Progress → Work) → Above e → ((s : Progress) → Above (f s .end)) → Above (resume es us e f .end)
+unfolding resume
+above-then es us (refused n) f p k = p
+above-then es us (done s) f p k = k s
+
+turns-above : (f : Fixed) (a : Step) (hs : List ℕ) (s : Progress) → Above (turns f a hs s .end)
+unfolding turns andThen heaterTurn
+turns-above f a [] s = tt
+turns-above f a (h ∷ hs) s = above-then _ _ _ _ (above-by _ _) (λ s'. turns-above f a hs s')
+
+closed-above : (e : End) → Above e → Above (closed e)
+unfolding closed
+closed-above (refused n) p = p
+closed-above (done s) p = above-by _ s
+
+refused-above : (f : Fixed) (a : Step) (st : State) → Above (work f st a .end)
+unfolding work
+refused-above f a st = go (stepRefusal f st a)
+  where
+    events-above : Above (events (f .cylinder) (a .feed) (wantedVolumes a) (opening st) .end)
+    events-above = subst Above (sym (events-end (f .cylinder) (a .feed) (wantedVolumes a) (opening st))) (above-by _ _)
+
+    go : (n : ℕ) → Above (begin f st a n .end)
+    go (suc n) = unfold begin in (omega arith)
+    go zero = unfold begin andThen in (closed-above _ (above-then _ _ _ _ events-above (λ s. turns-above f a (workingOrder f) (withAverage (f .cylinder) s))))
 
 -- a step keeps the places past the tank's layers, and its arrays their lengths
 pub step-keeps : (t : StorageTank) (r : Report) (a : Step) → Keeps (t .layers) (t .temps) (stepped t r a .tank .temps) × (length (stepped t r a .tank .flags) ≡ length (t .flags))
@@ -95,6 +143,15 @@ step-keeps t r a = go (work (fixedIn t) (stateIn t) a .end) (work-left (fixedIn 
     go : (e : End) → Left (Kept (fixedIn t) a (stateIn t)) e → Keeps (t .layers) (t .temps) (answer t r e .tank .temps) × (length (answer t r e .tank .flags) ≡ length (t .flags))
     go (refused n) k = unfold answer in (keeps-self (t .layers) (t .temps), refl)
     go (done s) k = unfold answer in (k .temps, k .flags)
+
+-- the report of an accepted step has zeros past the tank's heaters
+pub report-unused : (t : StorageTank) (r : Report) (a : Step) → stepped t r a .number ≡ 0 → (h : ℕ) → t .heaters ≤ h → getD (stepped t r a .report .lines) h zeroLine ≡ zeroLine
+unfolding stepped
+report-unused t r a z h l = go (work (fixedIn t) (stateIn t) a .end) (work-left (fixedIn t) a (stateIn t)) (refused-above (fixedIn t) a (stateIn t)) z
+  where
+    go : (e : End) → Left (Kept (fixedIn t) a (stateIn t)) e → Above e → answer t r e .number ≡ 0 → getD (answer t r e .report .lines) h zeroLine ≡ zeroLine
+    go (refused n) k p q = absurd (unfold answer in (omega (arith, p, q)))
+    go (done s) k p q = unfold answer in (k .lines h (subst (λ (n : ℕ). n ≤ h) (sym (many-placed (t .heaters) (t .fitted))) l))
 
 -- ---- the unused places of the tanks of a list of calls
 
