@@ -1,7 +1,7 @@
 -- Proves the law that loops cite which fill an array's places from the first up (01, Job: volumes and settings): one place more.
 use Prim.Native.Nat.{ℕ, zero, suc, _+_, _<_}
 use native.Mathlib.Omega.{arith}
-use native.Mathlib.Nat.{add-zero}
+use native.Mathlib.Nat.{add-zero, zero-add}
 use native.Mathlib.Numerals.{add-one}
 use mathlib.Core.Path.{_≡_, refl, ap, _∙_}
 use mathlib.Core.List.{List, [], _∷_, _++_, append-assoc}
@@ -25,4 +25,4 @@ module _ {A : Type 0} (g : ℕ → A) where
 
   pub filled-turn : (d : A) (k : ℕ) (xs : List A) → k < length xs → set (filled g k xs) k (g k) ≡ filled g (k + 1) xs
   filled-turn d k xs h =
-      rw (drop-cons xs k d h, set-at (tabulate g k 0) (getD xs k d) (drop (suc k) xs) (g k) k (tabulate-length k 0), add-one, tabulate-more k 0, append-assoc)
+      rw (drop-cons xs k d h, set-at (tabulate g k 0) (getD xs k d) (drop (suc k) xs) (g k) k (tabulate-length k 0), add-one, tabulate-more k 0, append-assoc, zero-add)

@@ -1,55 +1,55 @@
+-- `fields::volumes_at` meets its contract (01, Job). The loop's invariant: the first i places are filled.
+use Rattle.numeric.specs.Tabulate.{tabulate}
+use mathlib.Core.Path.{_≡_, refl}
+use Prim.Native.Nat.{ℕ, _+_, _*_, _-_, _≤_}
+use native.Mathlib.Omega.{arith}
+use lib.Ieee.{nan}
+use Rattle.job_reader.specs.Bytes.{doubleAt}
+use Rattle.job_reader.specs.Fields.{filled, noVolumes, volumesAt}
+use Rattle.job_reader.proofs.Filling.{filled-turn}
 use borrow.Author.Needs.{needs}
 use Rattle.job_reader.proofs.fields.volumes_at.Statement.{statement}
 use Rattle.job_reader.proofs.fields.volumes_at.Tie as tie
-use Rattle.job_reader.proofs.fields.volumes_at.Reads as reads
-use Rattle.job_reader.proofs.fields.volumes_at.Lts as lts
-use Rattle.job_reader.proofs.bytes.f64_at.Reads as f64-at-reads
 
 abbrev Inv-loop : tie.InvT-loop
-Inv-loop s at n volumes₀ i₀ volumes i = ?
+Inv-loop s at n volumes₀ i₀ volumes i = (i ≤ n) × (volumes ≡ filled (λ (j : ℕ). doubleAt s (at + 8 * j)) i noVolumes)
 
 abbrev μ-loop : tie.MeasureT-loop
-μ-loop s at n volumes₀ i₀ volumes i = ?
+μ-loop s at n volumes₀ i₀ volumes i = n - i
 
--- src/fields.rt:23:5
 loop-holds : tie.Need-loop-holds Inv-loop μ-loop
-loop-holds c = search needs
+unfolding tabulate
+loop-holds c = (omega arith, refl)
 
--- src/fields.rt:24:37
 mul-f64-at : tie.Need-mul-f64-at Inv-loop μ-loop
 mul-f64-at c = search needs
 
--- src/fields.rt:24:32
 add-f64-at : tie.Need-add-f64-at Inv-loop μ-loop
 add-f64-at c = search needs
 
--- src/fields.rt:24:22
 f64-at-requires : tie.Need-f64-at-requires Inv-loop μ-loop
 f64-at-requires c κs = search needs
 
--- src/fields.rt:24:9
 mul-volumes : tie.Need-mul-volumes Inv-loop μ-loop
 mul-volumes c = search needs
 
--- src/fields.rt:24:9
 array-write-volumes : tie.Need-array-write-volumes Inv-loop μ-loop
 array-write-volumes c = search needs
 
--- src/fields.rt:25:9
 add-i : tie.Need-add-i Inv-loop μ-loop
 add-i c = search needs
 
--- src/fields.rt:23:5
 loop-less : tie.Need-loop-less Inv-loop μ-loop
 loop-less c = search needs
 
--- src/fields.rt:23:5
 loop-again : tie.Need-loop-again Inv-loop μ-loop
-loop-again c = search needs
+loop-again c = (omega arith, rw (c .f64-at .ensures, c .before .before .loop .inv .1) (filled-turn (λ (j : ℕ). doubleAt (c .before .before .before .before .args .s .now) (c .before .before .before .before .args .at + 8 * j)) nan (c .before .before .loop .i) noVolumes (omega arith)))
 
--- src/fields.rt:17:1
 returns : tie.Need-returns Inv-loop μ-loop
-returns c = search needs
+unfolding volumesAt
+returns c =
+    let e : c .before .loop .i ≡ c .before .before .before .args .n = omega arith in
+    rw e at (c .before .loop .inv .1)
 
 pub volumes-at-spec : {M : Type 1} → statement M
 volumes-at-spec =

@@ -1,67 +1,56 @@
+-- `read::heater_at` meets its contract (01, Job): length, then place, then the presence byte.
+use borrow.Author.Tests.{eq-eqb, ne-eqb, lt-leb, le-leb, not-true, not-false}
+use Rattle.job_reader.specs.Records.{heaterAt}
 use borrow.Author.Needs.{needs}
 use Rattle.job_reader.proofs.read.heater_at.Statement.{statement}
 use Rattle.job_reader.proofs.read.heater_at.Tie as tie
-use Rattle.job_reader.proofs.read.heater_at.Reads as reads
-use Rattle.job_reader.proofs.read.heater_at.Lts as lts
-use Rattle.job_reader.proofs.read.heater_record.Reads as heater-record-reads
-use Rattle.job_reader.proofs.read.plain.Reads as plain-reads
-use Rattle.job_reader.proofs.read.refused.Reads as refused-reads
 
--- src/read.rt:114:9
 refused-requires : tie.Need-refused-requires
 refused-requires c κs = search needs
 
--- src/read.rt:114:9
 returns : tie.Need-returns
-returns c = search needs
+unfolding heaterAt
+returns c = rw (← c .before .before .before .pre .1, ne-eqb _ _ (c .before .if1 .taken)) (c .refused .ensures)
 
--- src/read.rt:117:9
 refused-requires-2 : tie.Need-refused-requires-2
 refused-requires-2 c κs = search needs
 
--- src/read.rt:117:9
 returns-2 : tie.Need-returns-2
-returns-2 c = search needs
+unfolding heaterAt
+returns-2 c = rw (← c .before .before .before .before .pre .1, eq-eqb _ _ (c .before .before .if1 .left), not-true (c .before .before .before .before .args .tank) (c .before .if2 .taken)) (c .refused2 .ensures)
 
--- src/read.rt:120:9
 refused-requires-3 : tie.Need-refused-requires-3
 refused-requires-3 c κs = search needs
 
--- src/read.rt:120:9
 returns-3 : tie.Need-returns-3
-returns-3 c = search needs
+unfolding heaterAt
+returns-3 c = rw (← c .before .before .before .before .before .pre .1, eq-eqb _ _ (c .before .before .before .if1 .left), not-false (c .before .before .before .before .before .args .tank) (c .before .before .if2 .left), c .before .if3 .taken) (c .refused3 .ensures)
 
--- src/read.rt:122:22
 add-presence : tie.Need-add-presence
 add-presence c = search needs
 
--- src/read.rt:122:20
 shared-slice-read-presence : tie.Need-shared-slice-read-presence
 shared-slice-read-presence c = search needs
 
--- src/read.rt:124:9
 refused-requires-4 : tie.Need-refused-requires-4
 refused-requires-4 c κs = search needs
 
--- src/read.rt:124:9
 returns-4 : tie.Need-returns-4
-returns-4 c = search needs
+unfolding heaterAt
+returns-4 c = rw (← c .before .before .before .before .before .before .before .pre .1, eq-eqb _ _ (c .before .before .before .before .before .if1 .left), not-false (c .before .before .before .before .before .before .before .args .tank) (c .before .before .before .before .if2 .left), c .before .before .before .if3 .left, lt-leb _ _ (c .before .if4 .taken)) (c .refused4 .ensures)
 
--- src/read.rt:126:11
 heater-record-requires : tie.Need-heater-record-requires
 heater-record-requires c κs = search needs
 
--- src/read.rt:126:43
 add-plain : tie.Need-add-plain
 add-plain c = search needs
 
--- src/read.rt:126:5
 plain-requires : tie.Need-plain-requires
 plain-requires c κs = search needs
 
--- src/read.rt:109:1
 returns-5 : tie.Need-returns-5
-returns-5 c = search needs
+unfolding heaterAt
+returns-5 c = rw (← c .before .before .before .before .before .before .before .before .pre .1, eq-eqb _ _ (c .before .before .before .before .before .before .if1 .left), not-false (c .before .before .before .before .before .before .before .before .args .tank) (c .before .before .before .before .before .if2 .left), c .before .before .before .before .if3 .left, le-leb _ _ (c .before .before .if4 .left), ← c .before .heater-record .ensures) (c .plain .ensures)
 
 pub heater-at-spec : {M : Type 1} → statement M
 heater-at-spec =

@@ -1,41 +1,35 @@
+-- `read::heater_record` meets its contract (01, Job): the thermostat by the presence byte.
+use borrow.Author.Tests.{eq-eqb, ne-eqb}
+use Rattle.job_reader.specs.Records.{heaterRecordAt}
 use borrow.Author.Needs.{needs}
 use Rattle.job_reader.proofs.read.heater_record.Statement.{statement}
 use Rattle.job_reader.proofs.read.heater_record.Tie as tie
-use Rattle.job_reader.proofs.read.heater_record.Reads as reads
-use Rattle.job_reader.proofs.read.heater_record.Lts as lts
-use Rattle.job_reader.proofs.bytes.f64_at.Reads as f64-at-reads
 
--- src/read.rt:89:27
 add-f64-at : tie.Need-add-f64-at
 add-f64-at c = search needs
 
--- src/read.rt:89:9
 f64-at-requires : tie.Need-f64-at-requires
 f64-at-requires c κs = search needs
 
--- src/read.rt:90:30
 add-f64-at-2 : tie.Need-add-f64-at-2
 add-f64-at-2 c = search needs
 
--- src/read.rt:90:9
 f64-at-requires-2 : tie.Need-f64-at-requires-2
 f64-at-requires-2 c κs = search needs
 
--- src/read.rt:92:9
 returns : tie.Need-returns
-returns c = search needs
+unfolding heaterRecordAt
+returns c = rw (eq-eqb _ _ (c .if1 .taken), c .before .f64-at2 .ensures, c .before .before .f64-at .ensures)
 
--- src/read.rt:99:32
 add-f64-at-3 : tie.Need-add-f64-at-3
 add-f64-at-3 c = search needs
 
--- src/read.rt:99:9
 f64-at-requires-3 : tie.Need-f64-at-requires-3
 f64-at-requires-3 c κs = search needs
 
--- src/read.rt:85:1
 returns-2 : tie.Need-returns-2
-returns-2 c = search needs
+unfolding heaterRecordAt
+returns-2 c = rw (ne-eqb _ _ (c .before .if1 .left), c .f64-at3 .ensures, c .before .before .f64-at2 .ensures, c .before .before .before .f64-at .ensures)
 
 pub heater-record-spec : {M : Type 1} → statement M
 heater-record-spec =
