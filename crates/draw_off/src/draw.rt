@@ -30,13 +30,21 @@ fn does_give_all(held: f64, rest: f64) -> bool
 fn share_of(held: f64, rest: f64) -> f64
     ensures { λ r. ⌜ r ≡ share held rest ⌝ }
 {
-    if does_give_all(held, rest) { held } else { rest }
+    if does_give_all(held, rest) {
+        held
+    } else {
+        rest
+    }
 }
 
 fn rest_after(held: f64, rest: f64) -> f64
     ensures { λ r. ⌜ r ≡ restAfter held rest ⌝ }
 {
-    if does_give_all(held, rest) { rest - held } else { 0.0 }
+    if does_give_all(held, rest) {
+        rest - held
+    } else {
+        0.0
+    }
 }
 
 // The volume v at temperature t counts over water at the temperature `cool`; `rest` is still wanted.
@@ -121,7 +129,14 @@ fn draw_feed(c: Cylinder, feed: f64, d: Drawn) -> Drawn
     ensures { λ r. ⌜ ((held temps : List Float) (wanted : Float) → drawOf held r ≡ drawFeed c feed temps wanted (drawOf held d)) ⌝ }
 {
     if d.rest > 0.0 {
-        return count_share(c, d.rest, feed, crate::cold::cold_temp(feed, d.rest), d.rest, d);
+        return count_share(
+            c,
+            d.rest,
+            feed,
+            crate::cold::cold_temp(feed, d.rest),
+            d.rest,
+            d,
+        );
     }
     d
 }

@@ -34,12 +34,7 @@ fn number_of(a: MixAnswer) -> u8
 }
 
 // The mixing in which the event ends, if it does; the answer is 9 where that is refused, and else 0.
-fn mix_event(
-    mixes: bool,
-    c: Cylinder,
-    vol: &[f64; MAX_LAYERS],
-    temps: &mut [f64; MAX_LAYERS],
-) -> u8
+fn mix_event(mixes: bool, c: Cylinder, vol: &[f64; MAX_LAYERS], temps: &mut [f64; MAX_LAYERS]) -> u8
     requires { ⌜ (1 ≤ c .layers) × (c .layers ≤ maxLayers) × (now vol ≡ layerVolumes c) ⌝ }
     ensures { λ r. ⌜ (r ≡ numberAfter (eventMixing mixes c (now (temps .entry))) true) × (now (temps .exit) ≡ mixedTemps (now (temps .entry)) (eventMixing mixes c (now (temps .entry)))) ⌝ }
 {
@@ -90,7 +85,14 @@ pub fn draw_event(
     let n = c.layers;
     let mut held = *vol;
     let d = crate::draw::extract_hot_water(
-        c, vol, feed, temps, wanted, totals.weighted, totals.drawn, &mut held,
+        c,
+        vol,
+        feed,
+        temps,
+        wanted,
+        totals.weighted,
+        totals.drawn,
+        &mut held,
     );
     let after = Totals {
         energy: totals.energy + d.energy,

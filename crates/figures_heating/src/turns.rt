@@ -4,7 +4,8 @@ ghost use Prim.Native.Nat.{_<_};
 use crate::print;
 use cylinder::Cylinder;
 use heating::SetPoints;
-use heating::turn::{Immersion, TurnAnswer};
+use heating::turn::Immersion;
+use heating::turn::TurnAnswer;
 use mixing::limits::MAX_LAYERS;
 
 // Two layers of 16 litres; density and specific heat are 1.
@@ -83,8 +84,24 @@ pub fn unset() {
     let h = at_the_bottom(3.0);
     let mut temps = [36.0; MAX_LAYERS];
     let mut charged = [0.0; MAX_LAYERS];
-    let a = heating::turn::turn(c, &vol, h, SetPoints::Neither, false, &mut temps, &mut charged);
+    let a = heating::turn::turn(
+        c,
+        &vol,
+        h,
+        SetPoints::Neither,
+        false,
+        &mut temps,
+        &mut charged,
+    );
     show(a, &temps);
-    let b = heating::turn::turn(c, &vol, h, SetPoints::Neither, false, &mut temps, &mut charged);
+    let b = heating::turn::turn(
+        c,
+        &vol,
+        h,
+        SetPoints::Neither,
+        false,
+        &mut temps,
+        &mut charged,
+    );
     show(b, &temps);
 }

@@ -2,3 +2,5 @@
 pub mod Bytes
 pub mod Fields
 pub mod Records
+pub mod Values
+pub mod WellFormed

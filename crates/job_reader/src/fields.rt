@@ -6,7 +6,6 @@ ghost use Rattle.numeric.specs.Holds.{holds};
 ghost use Rattle.draw_off.specs.Lent.{maxEvents};
 ghost use Rattle.working_order.specs.Order.{maxHeaters};
 ghost use Rattle.job_reader.specs.Fields.{volumesAt, isPresenceAt, pointsAt, settingsAt};
-
 use crate::bytes::f64_at;
 use draw_off::event::MAX_EVENTS;
 use heating::SetPoints;

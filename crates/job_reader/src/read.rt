@@ -6,7 +6,6 @@ ghost use Rattle.working_order.specs.Order.{maxHeaters};
 ghost use Rattle.job_reader.specs.Bytes.{u32At};
 ghost use Rattle.job_reader.specs.Records.{plainReading, refusedAt, tankAt, heaterRecordAt, heaterAt, stepAt, byKind, readRecord};
 ghost use Rattle.job_reader.specs.Fields.{stepVolumesAt};
-
 use crate::Reading;
 use crate::Record;
 use crate::StepRecord;
@@ -173,14 +172,7 @@ fn step_at(s: &[u8], at: usize, size: usize, tank: bool, heaters: usize) -> Read
 }
 
 // A record whose length and kind are there, by its kind.
-fn record_at(
-    s: &[u8],
-    at: usize,
-    size: usize,
-    tank: bool,
-    heaters: usize,
-    step: bool,
-) -> Reading
+fn record_at(s: &[u8], at: usize, size: usize, tank: bool, heaters: usize, step: bool) -> Reading
     requires { ⌜ (at + 6 ≤ length (now s)) × (at + 4 + size ≤ length (now s)) × (size ≡ u32At (now s) at) × (heaters ≤ maxHeaters) ⌝ }
     ensures { λ r. ⌜ r ≡ byKind (now (s .entry)) at tank heaters step ⌝ }
 {

@@ -70,7 +70,7 @@ pub checks-of : (c : Cylinder) (n : ℕ) (fitted : List Heater) (temps : Bool) �
 checks-of c n fitted temps =
     rw (
       many-placed n fitted,
-      holds-same (λ (h : ℕ). fairHeater (getD (placedHeaters n fitted) h notPlaced)) (fairAt fitted) n 0 (λ j l u. ap fairHeater (placed-at n fitted j (omega arith)))
+      holds-same (λ (h : ℕ). fairHeater (getD (placedHeaters n fitted) h notPlaced)) (fairAt fitted) n 0 (λ j l u. ap fairHeater (placed-at n fitted j (omega arith))),
     )
 
 -- what the checks 1 to 3 say of the counts

@@ -156,9 +156,9 @@ module _ (m : TankDesign) (a : Step) where
           closing-meets (m .layers) (Right m a) law (andThen drawn (λ s. allTurns (fixedOf m) a s))
           (then-meets (m .layers) (Right m a) (Law [] (opening st)) law drawn (λ s. allTurns (fixedOf m) a s) (events-meets (wantedVolumes a) (opening st))
           (λ s1 a1.
-              let s2 = withAverage (cylinderOf m) s1 in
-              let a2 = subst (λ (us : List Turn). Law [] (opening st) us s2) (append-nil (drawn .turns)) (both [] [] (opening st) (drawn .turns) s1 [] s2 a1 (average-still s1) tt) in
-              meets-map (m .layers) (Right m a) (Law (workingOrder (fixedOf m)) s2) (λ vs s3. law (drawn .turns ++ vs) s3)
-              (λ vs s3 b1. both [] (workingOrder (fixedOf m)) (opening st) (drawn .turns) s2 vs s3 a2 b1 tt)
-              (turns (fixedOf m) a (workingOrder (fixedOf m)) s2)
-              (turns-meets (c .timestep) (workingOrder (fixedOf m)) s2 fair (order-once (fixedOf m)) (a2 .flags-length ∙ unfold opening in l) (a2 .lines-length ∙ unfold opening in refl)))))
+          let s2 = withAverage (cylinderOf m) s1 in
+          let a2 = subst (λ (us : List Turn). Law [] (opening st) us s2) (append-nil (drawn .turns)) (both [] [] (opening st) (drawn .turns) s1 [] s2 a1 (average-still s1) tt) in
+          meets-map (m .layers) (Right m a) (Law (workingOrder (fixedOf m)) s2) (λ vs s3. law (drawn .turns ++ vs) s3)
+          (λ vs s3 b1. both [] (workingOrder (fixedOf m)) (opening st) (drawn .turns) s2 vs s3 a2 b1 tt)
+          (turns (fixedOf m) a (workingOrder (fixedOf m)) s2)
+          (turns-meets (c .timestep) (workingOrder (fixedOf m)) s2 fair (order-once (fixedOf m)) (a2 .flags-length ∙ unfold opening in l) (a2 .lines-length ∙ unfold opening in refl)))))

@@ -10,7 +10,6 @@ ghost use Rattle.draw_off.specs.Lent.{maxEvents};
 ghost use Rattle.working_order.specs.Order.{maxHeaters};
 ghost use Rattle.storage_tank.specs.Fixed.{placed, noHeater};
 ghost use Rattle.storage_tank.specs.Checks.{isPositive, notNegative, isPosition, fairHeater, fairPoints, layersCheck, numbersCheck, noSetting};
-
 use crate::Heater;
 use crate::Setting;
 use cylinder::Cylinder;
@@ -22,7 +21,11 @@ use working_order::MAX_HEATERS;
 pub fn is_not_negative(x: f64) -> bool
     ensures { λ r. ⌜ r ≡ notNegative x ⌝ }
 {
-    if numeric::compare::is_finite(x) { !(x < 0.0) } else { false }
+    if numeric::compare::is_finite(x) {
+        !(x < 0.0)
+    } else {
+        false
+    }
 }
 
 // At least 0 and below 1.
@@ -36,7 +39,11 @@ pub fn is_position(x: f64) -> bool
 pub fn thermostat_position(h: Heater) -> f64
     ensures { λ r. ⌜ r ≡ placed h .thermostat ⌝ }
 {
-    if h.has_thermostat { h.thermostat } else { h.position }
+    if h.has_thermostat {
+        h.thermostat
+    } else {
+        h.position
+    }
 }
 
 pub fn is_fair_heater(h: Heater) -> bool
@@ -100,7 +107,11 @@ fn are_fair_both(l: f64, u: f64) -> bool
     if !numeric::compare::is_finite(l) {
         return false;
     }
-    if numeric::compare::is_finite(u) { !(l > u) } else { false }
+    if numeric::compare::is_finite(u) {
+        !(l > u)
+    } else {
+        false
+    }
 }
 
 // 8, of the first n settings.
@@ -133,5 +144,9 @@ pub fn numbers_check(c: Cylinder) -> u8
     if !numeric::compare::is_finite_above_zero(c.cp) {
         return 3;
     }
-    if numeric::compare::is_finite_above_zero(c.timestep) { 0 } else { 3 }
+    if numeric::compare::is_finite_above_zero(c.timestep) {
+        0
+    } else {
+        3
+    }
 }

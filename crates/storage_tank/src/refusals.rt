@@ -10,7 +10,6 @@ ghost use Rattle.draw_off.specs.Lent.{maxEvents};
 ghost use Rattle.working_order.specs.Order.{maxHeaters};
 ghost use Rattle.storage_tank.specs.Fixed.{placed, noHeater, fixedOf, fixedIn, stateIn};
 ghost use Rattle.storage_tank.specs.Checks.{unless, firstRefusal, fairHeater, layersCheck, numbersCheck, temperaturesCheck, feedCheck, pointsCheck, makeRefusal, stepRefusal};
-
 use crate::Heater;
 use crate::Step;
 use crate::StorageTank;
@@ -129,7 +128,12 @@ pub fn step_refusal(t: StorageTank, a: Step) -> u8
         return n;
     }
     let fitted = t.fitted;
-    let k = last_checks(c, t.heaters, fitted, cylinder::are_finite(t.layers, &t.temps));
+    let k = last_checks(
+        c,
+        t.heaters,
+        fitted,
+        cylinder::are_finite(t.layers, &t.temps),
+    );
     if k != 0 {
         return k;
     }

@@ -18,10 +18,10 @@ returns-2 c = rw (le-leb _ _ (c .before .before .if1 .left), lt-leb _ _ (c .if2 
 returns-3 : tie.Need-returns-3
 unfolding firstRefusal
 returns-3 c = rw (
-      le-leb _ _ (c .before .before .before .if1 .left),
-      le-leb _ _ (c .before .if2 .left),
-      lt-leb _ _ (c .if3 .taken)
-    )
+  le-leb _ _ (c .before .before .before .if1 .left),
+  le-leb _ _ (c .before .if2 .left),
+  lt-leb _ _ (c .if3 .taken),
+)
 
 numbers-check-requires : tie.Need-numbers-check-requires
 numbers-check-requires c κs = search needs

@@ -23,10 +23,10 @@ returns-2 c = rw (sym (c .before .before .before .is-not-negative .ensures) ∙ 
 returns-3 : tie.Need-returns-3
 unfolding firstRefusal
 returns-3 c = rw (
-      sym (c .before .before .before .before .is-not-negative .ensures) ∙ not-false _ (c .before .before .before .if1 .left),
-      sym (c .before .before .is-finite .ensures) ∙ not-false _ (c .before .if2 .left),
-      not-true (c .before .before .before .before .before .args .temps) (c .if3 .taken)
-    )
+  sym (c .before .before .before .before .is-not-negative .ensures) ∙ not-false _ (c .before .before .before .if1 .left),
+  sym (c .before .before .is-finite .ensures) ∙ not-false _ (c .before .if2 .left),
+  not-true (c .before .before .before .before .before .args .temps) (c .if3 .taken),
+)
 
 are-fair-heaters-requires : tie.Need-are-fair-heaters-requires
 are-fair-heaters-requires c κs = search needs
@@ -34,20 +34,20 @@ are-fair-heaters-requires c κs = search needs
 returns-4 : tie.Need-returns-4
 unfolding firstRefusal
 returns-4 c = rw (
-      sym (c .before .before .before .before .before .before .is-not-negative .ensures) ∙ not-false _ (c .before .before .before .before .before .if1 .left),
-      sym (c .before .before .before .before .is-finite .ensures) ∙ not-false _ (c .before .before .before .if2 .left),
-      not-false (c .before .before .before .before .before .before .before .args .temps) (c .before .before .if3 .left),
-      sym (c .before .are-fair-heaters .ensures) ∙ not-true _ (c .if4 .taken)
-    )
+  sym (c .before .before .before .before .before .before .is-not-negative .ensures) ∙ not-false _ (c .before .before .before .before .before .if1 .left),
+  sym (c .before .before .before .before .is-finite .ensures) ∙ not-false _ (c .before .before .before .if2 .left),
+  not-false (c .before .before .before .before .before .before .before .args .temps) (c .before .before .if3 .left),
+  sym (c .before .are-fair-heaters .ensures) ∙ not-true _ (c .if4 .taken),
+)
 
 returns-5 : tie.Need-returns-5
 unfolding firstRefusal
 returns-5 c = rw (
-      sym (c .before .before .before .before .before .before .is-not-negative .ensures) ∙ not-false _ (c .before .before .before .before .before .if1 .left),
-      sym (c .before .before .before .before .is-finite .ensures) ∙ not-false _ (c .before .before .before .if2 .left),
-      not-false (c .before .before .before .before .before .before .before .args .temps) (c .before .before .if3 .left),
-      sym (c .before .are-fair-heaters .ensures) ∙ not-false _ (c .if4 .left)
-    )
+  sym (c .before .before .before .before .before .before .is-not-negative .ensures) ∙ not-false _ (c .before .before .before .before .before .if1 .left),
+  sym (c .before .before .before .before .is-finite .ensures) ∙ not-false _ (c .before .before .before .if2 .left),
+  not-false (c .before .before .before .before .before .before .before .args .temps) (c .before .before .if3 .left),
+  sym (c .before .are-fair-heaters .ensures) ∙ not-false _ (c .if4 .left),
+)
 
 pub last-checks-spec : {M : Type 1} → statement M
 last-checks-spec =

@@ -20,10 +20,10 @@ is-finite-requires c κs = search needs
 returns-3 : tie.Need-returns-3
 unfolding firstRefusal
 returns-3 c = rw (
-      le-leb _ _ (c .before .before .before .if1 .left),
-      eq-eqb _ _ (c .before .before .if2 .left),
-      sym (c .before .is-finite .ensures) ∙ not-true _ (c .if3 .taken)
-    )
+  le-leb _ _ (c .before .before .before .if1 .left),
+  eq-eqb _ _ (c .before .before .if2 .left),
+  sym (c .before .is-finite .ensures) ∙ not-true _ (c .if3 .taken),
+)
 
 are-fair-volumes-requires : tie.Need-are-fair-volumes-requires
 are-fair-volumes-requires c κs = search needs
@@ -31,11 +31,11 @@ are-fair-volumes-requires c κs = search needs
 returns-4 : tie.Need-returns-4
 unfolding firstRefusal
 returns-4 c = rw (
-      le-leb _ _ (c .before .before .before .before .before .before .before .if1 .left),
-      eq-eqb _ _ (c .before .before .before .before .before .before .if2 .left),
-      sym (c .before .before .before .before .before .is-finite .ensures) ∙ not-false _ (c .before .before .before .before .if3 .left),
-      sym (c .before .are-fair-volumes .ensures) ∙ not-true _ (c .if4 .taken)
-    )
+  le-leb _ _ (c .before .before .before .before .before .before .before .if1 .left),
+  eq-eqb _ _ (c .before .before .before .before .before .before .if2 .left),
+  sym (c .before .before .before .before .before .is-finite .ensures) ∙ not-false _ (c .before .before .before .before .if3 .left),
+  sym (c .before .are-fair-volumes .ensures) ∙ not-true _ (c .if4 .taken),
+)
 
 are-fair-settings-requires : tie.Need-are-fair-settings-requires
 are-fair-settings-requires c κs = search needs
@@ -43,24 +43,24 @@ are-fair-settings-requires c κs = search needs
 returns-5 : tie.Need-returns-5
 unfolding firstRefusal
 returns-5 c = rw (
-      le-leb _ _ (c .before .before .before .before .before .before .before .before .before .before .if1 .left),
-      eq-eqb _ _ (c .before .before .before .before .before .before .before .before .before .if2 .left),
-      sym (c .before .before .before .before .before .before .before .before .is-finite .ensures) ∙ not-false _ (c .before .before .before .before .before .before .before .if3 .left),
-      sym (c .before .before .before .before .are-fair-volumes .ensures) ∙ not-false _ (c .before .before .before .if4 .left),
-      c .before .before .before .before .before .before .before .before .before .if2 .left,
-      sym (c .before .are-fair-settings .ensures) ∙ not-true _ (c .if5 .taken)
-    )
+  le-leb _ _ (c .before .before .before .before .before .before .before .before .before .before .if1 .left),
+  eq-eqb _ _ (c .before .before .before .before .before .before .before .before .before .if2 .left),
+  sym (c .before .before .before .before .before .before .before .before .is-finite .ensures) ∙ not-false _ (c .before .before .before .before .before .before .before .if3 .left),
+  sym (c .before .before .before .before .are-fair-volumes .ensures) ∙ not-false _ (c .before .before .before .if4 .left),
+  c .before .before .before .before .before .before .before .before .before .if2 .left,
+  sym (c .before .are-fair-settings .ensures) ∙ not-true _ (c .if5 .taken),
+)
 
 returns-6 : tie.Need-returns-6
 unfolding firstRefusal
 returns-6 c = rw (
-      le-leb _ _ (c .before .before .before .before .before .before .before .before .before .before .if1 .left),
-      eq-eqb _ _ (c .before .before .before .before .before .before .before .before .before .if2 .left),
-      sym (c .before .before .before .before .before .before .before .before .is-finite .ensures) ∙ not-false _ (c .before .before .before .before .before .before .before .if3 .left),
-      sym (c .before .before .before .before .are-fair-volumes .ensures) ∙ not-false _ (c .before .before .before .if4 .left),
-      c .before .before .before .before .before .before .before .before .before .if2 .left,
-      sym (c .before .are-fair-settings .ensures) ∙ not-false _ (c .if5 .left)
-    )
+  le-leb _ _ (c .before .before .before .before .before .before .before .before .before .before .if1 .left),
+  eq-eqb _ _ (c .before .before .before .before .before .before .before .before .before .if2 .left),
+  sym (c .before .before .before .before .before .before .before .before .is-finite .ensures) ∙ not-false _ (c .before .before .before .before .before .before .before .if3 .left),
+  sym (c .before .before .before .before .are-fair-volumes .ensures) ∙ not-false _ (c .before .before .before .if4 .left),
+  c .before .before .before .before .before .before .before .before .before .if2 .left,
+  sym (c .before .are-fair-settings .ensures) ∙ not-false _ (c .if5 .left),
+)
 
 pub step-checks-spec : {M : Type 1} → statement M
 step-checks-spec =
