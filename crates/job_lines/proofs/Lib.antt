@@ -1,0 +1,2 @@
+-- The lemmas that the proofs of `job_lines` share.
+pub mod Digits

@@ -1,0 +1,43 @@
+-- States what a buffer holds after a text is put at a place of it, as far as it fits (01, Job: the lines), and that texts put one after the other are one text.
+use Prim.Native.Nat.{ℕ, zero, suc, _+_}
+use native.Mathlib.Omega.{arith}
+use native.Mathlib.Nat.{add-zero}
+use mathlib.Core.Path.{_≡_, refl, sym, ap, _∙_}
+use mathlib.Core.List.{List, [], _∷_, _++_}
+use lib.ListN.{length, take, drop, set, length-append}
+use lib.Seq.{sets}
+
+-- the text as far as it fits, from the first place on, and what the buffer held after it
+abbrev pub written : List ℕ → List ℕ → List ℕ
+written buffer text = take (length buffer) text ++ drop (length text) buffer
+
+-- the text stands in the buffer from a place on, and `next` is the place after it
+pub record Put (before : List ℕ) (at : ℕ) (text after : List ℕ) (next : ℕ) : Type 0 where
+  pub stands : after ≡ sets before at text
+  pub ends : next ≡ at + length text
+
+pub sets-append : (b : List ℕ) (at : ℕ) (t u : List ℕ) → sets b at (t ++ u) ≡ sets (sets b at t) (at + length t) u
+sets-append b at [] u = rw add-zero
+sets-append b at (x ∷ t) u =
+    let e : at + suc (length t) ≡ suc at + length t = omega arith in
+    rw e (sets-append (set b at x) (suc at) t u)
+
+pub put-then : {b : List ℕ} {at : ℕ} {t c : List ℕ} {i : ℕ} {u d : List ℕ} {j : ℕ} → Put b at t c i → Put c i u d j → Put b at (t ++ u) d j
+put-then {b} {at} {t} {c} {i} {u} {d} {j} p q = record {
+  stands = q .stands ∙ rw (p .stands, p .ends) (sym (sets-append b at t u));
+  ends = rw (length-append t u) (let e = q .ends in let f = p .ends in omega arith);
+}
+
+sets-behind : (x : ℕ) (b : List ℕ) (i : ℕ) (t : List ℕ) → sets (x ∷ b) (suc i) t ≡ x ∷ sets b i t
+sets-behind x b i [] = refl
+sets-behind x b i (a ∷ t) = sets-behind x (set b i a) (suc i) t
+
+sets-none : (i : ℕ) (t : List ℕ) → _≡_ {A = List ℕ} (sets [] i t) []
+sets-none i [] = refl
+sets-none i (a ∷ t) = sets-none (suc i) t
+
+pub put-written : (b t : List ℕ) → sets b 0 t ≡ written b t
+put-written [] [] = refl
+put-written [] (a ∷ t) = sets-none 1 t
+put-written (x ∷ b) [] = refl
+put-written (x ∷ b) (a ∷ t) = sets-behind a b 0 t ∙ ap (λ (l : List ℕ). a ∷ l) (put-written b t)
