@@ -5,7 +5,7 @@ use native.Mathlib.Nat.{add-zero}
 use mathlib.Core.Path.{_≡_, refl, sym, ap, _∙_}
 use mathlib.Core.List.{List, [], _∷_, _++_}
 use lib.ListN.{length, take, drop, set, length-append}
-use lib.Seq.{sets}
+use lib.Seq.{sets, length-sets}
 
 -- the text as far as it fits, from the first place on, and what the buffer held after it
 abbrev pub written : List ℕ → List ℕ → List ℕ
@@ -28,6 +28,12 @@ put-then {b} {at} {t} {c} {i} {u} {d} {j} p q = record {
   ends = rw (length-append t u) (let e = q .ends in let f = p .ends in omega arith);
 }
 
+pub put-nothing : (b : List ℕ) (at : ℕ) → Put b at [] b at
+put-nothing b at = record { stands = refl; ends = omega arith }
+
+pub put-length : {b : List ℕ} {at : ℕ} {t c : List ℕ} {i : ℕ} → Put b at t c i → length c ≡ length b
+put-length {b} {at} {t} p = ap length (p .stands) ∙ length-sets b at t
+
 sets-behind : (x : ℕ) (b : List ℕ) (i : ℕ) (t : List ℕ) → sets (x ∷ b) (suc i) t ≡ x ∷ sets b i t
 sets-behind x b i [] = refl
 sets-behind x b i (a ∷ t) = sets-behind x (set b i a) (suc i) t
@@ -36,8 +42,12 @@ sets-none : (i : ℕ) (t : List ℕ) → _≡_ {A = List ℕ} (sets [] i t) []
 sets-none i [] = refl
 sets-none i (a ∷ t) = sets-none (suc i) t
 
-pub put-written : (b t : List ℕ) → sets b 0 t ≡ written b t
-put-written [] [] = refl
-put-written [] (a ∷ t) = sets-none 1 t
-put-written (x ∷ b) [] = refl
-put-written (x ∷ b) (a ∷ t) = sets-behind a b 0 t ∙ ap (λ (l : List ℕ). a ∷ l) (put-written b t)
+sets-written : (b t : List ℕ) → sets b 0 t ≡ written b t
+sets-written [] [] = refl
+sets-written [] (a ∷ t) = sets-none 1 t
+sets-written (x ∷ b) [] = refl
+sets-written (x ∷ b) (a ∷ t) = sets-behind a b 0 t ∙ ap (λ (l : List ℕ). a ∷ l) (sets-written b t)
+
+-- a text put at the first place
+pub put-first : {b t c : List ℕ} {i : ℕ} → Put b 0 t c i → (i ≡ length t) × (c ≡ written b t)
+put-first {b} {t} p = (let e = p .ends in omega arith, p .stands ∙ sets-written b t)

@@ -1,31 +1,26 @@
+-- `text::put_number` meets its contract (01, Job): the space, then the decimals.
+use native.Mathlib.Omega.{arith}
+use Rattle.job_lines.specs.Put.{put-then}
+use Rattle.job_lines.specs.Text.{decimal}
 use borrow.Author.Needs.{needs}
 use Rattle.job_lines.proofs.text.put_number.Statement.{statement}
 use Rattle.job_lines.proofs.text.put_number.Tie as tie
-use Rattle.job_lines.proofs.text.put_number.Reads as reads
-use Rattle.job_lines.proofs.text.put_number.Lts as lts
-use Rattle.job_lines.proofs.text.put_byte.Reads as put-byte-reads
-use Rattle.job_lines.proofs.text.put_digits.Reads as put-digits-reads
-use Rattle.job_lines.proofs.text.width.Reads as width-reads
 
--- src/text.rt:79:9
 put-byte-requires : tie.Need-put-byte-requires
 put-byte-requires c κs = search needs
 
--- src/text.rt:81:9
 width-requires : tie.Need-width-requires
 width-requires c κs = search needs
 
--- src/text.rt:82:5
 put-digits-requires : tie.Need-put-digits-requires
 put-digits-requires c κs = search needs
 
--- src/text.rt:75:1
 same-length : tie.Need-same-length
 same-length c = search needs
 
--- src/text.rt:75:1
 returns : tie.Need-returns
-returns c = search needs
+unfolding decimal
+returns c = (rw (← c .before .before .before .before .width .ensures .0) (put-then (c .before .before .before .before .before .before .before .put-byte .ensures .0) (c .before .before .put-digits .ensures .0)), omega arith)
 
 pub put-number-spec : {M : Type 1} → statement M
 put-number-spec =
