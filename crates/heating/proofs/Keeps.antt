@@ -12,10 +12,11 @@ use Rattle.mixing.proofs.Keeps.{rearrange-keeps}
 use Rattle.cylinder.specs.declared.Cylinder.{Cylinder}
 use Rattle.cylinder.specs.Layers.{heatCapacity}
 use Rattle.heating.specs.declared.SetPoints.{SetPoints}
+use Rattle.heating.specs.declared.turn.Immersion.{Immersion}
 use Rattle.heating.specs.Switch.{switchOn}
 use Rattle.heating.specs.Heat.{heated}
 use Rattle.heating.specs.Losses.{loss, limitedTemp, tempsAfter, chargedAfter}
-use Rattle.heating.specs.Turn.{Immersion, offers, heatAndMix, afterMixing, turn}
+use Rattle.heating.specs.Turn.{offers, heatAndMix, afterMixing, turn}
 
 pub heated-keeps : (c : Cylinder) (vol : List Float) (given : ℕ → Float) (temps : List Float) → Keeps (c .layers) temps (heated c vol given temps)
 unfolding heated

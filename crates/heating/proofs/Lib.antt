@@ -1,3 +1,4 @@
+-- The laws of `heating` and the lemmas that its proofs share.
 pub mod Layer
 pub mod Mixed
 pub mod Keeps

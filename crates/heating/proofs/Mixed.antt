@@ -12,9 +12,10 @@ use Rattle.mixing.specs.Rearrange.{Mixing, sorted, unsorted, rearrange}
 use Rattle.mixing.specs.Mix.{answerOf, tempsOf}
 use Rattle.cylinder.specs.declared.Cylinder.{Cylinder}
 use Rattle.heating.specs.declared.SetPoints.{SetPoints}
+use Rattle.heating.specs.declared.turn.Immersion.{Immersion}
 use Rattle.heating.specs.Switch.{switchOn}
 use Rattle.heating.specs.Heat.{heated}
-use Rattle.heating.specs.Turn.{Immersion, offers, heatAndMix, afterMixing, turn}
+use Rattle.heating.specs.Turn.{offers, heatAndMix, afterMixing, turn}
 
 -- an answer tells the mixing
 mixed-sorted : (x : Mixing) (temps : List Float) (k : ℕ) → answerOf x ≡ Mixed k → x ≡ sorted (tempsOf temps x) k

@@ -1,3 +1,4 @@
+-- The definitions of `heating`: the two switches, heat, losses and limit, supply, and one turn (01, Switch-on to Turn).
 pub mod Switch
 pub mod Heat
 pub mod Losses

@@ -13,14 +13,13 @@ use Rattle.mixing.specs.Rearrange.{Mixing, sorted, unsorted, rearrange}
 use Rattle.cylinder.specs.declared.Cylinder.{Cylinder}
 use Rattle.cylinder.specs.Layers.{allFinite}
 use Rattle.heating.specs.declared.SetPoints.{SetPoints}
+use Rattle.heating.specs.declared.turn.Immersion.{Immersion}
 use Rattle.heating.specs.declared.turn.TurnAnswer.{TurnAnswer}
 use Rattle.heating.specs.Switch.{switchOn, switchOff}
 use Rattle.heating.specs.Heat.{offer, heated}
 use Rattle.heating.specs.Losses as Losses
 use Rattle.heating.specs.Losses.{adjusted}
 use Rattle.heating.specs.Supply.{supply}
--- the heater of a turn: its rated power, its layer and its thermostat's
-pub use Rattle.heating.specs.declared.turn.Immersion.{Immersion}
 
 -- what a turn came to: whether the heater ran on, its mixing, and what follows a mixing that is not refused: the layers and the charged losses it leaves,
 -- its flag, and its figures

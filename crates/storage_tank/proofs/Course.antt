@@ -24,7 +24,7 @@ use Rattle.storage_tank.specs.Course.{cylinderOf, EventOf, TurnOf, event
 use Rattle.storage_tank.proofs.Members.{all-map, all-both}
 use Rattle.storage_tank.proofs.Order.{heaters-many, order-below, order-once}
 use Rattle.storage_tank.proofs.Steps.{Reach, end-reach}
-use Rattle.storage_tank.proofs.Turns.{turn-of}
+use Rattle.storage_tank.proofs.TurnFacts.{turn-of}
 
 -- ---- a deed, and then the others if it does not end the step
 

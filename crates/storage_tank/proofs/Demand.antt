@@ -36,7 +36,7 @@ use Rattle.storage_tank.proofs.Latch.{latchedBy, latched-since}
 use Rattle.storage_tank.proofs.Members.{any, any→Some, Some→any, all-map, all-both, at-tabulate, past-tabulate, tabulate-same}
 use Rattle.storage_tank.proofs.Order.{in-working-order}
 use Rattle.storage_tank.proofs.Steps.{Reach, Meets, Law, ofHeater, began, ended, nothing-latched}
-use Rattle.storage_tank.proofs.Turns.{Right}
+use Rattle.storage_tank.proofs.TurnFacts.{Right}
 use Rattle.storage_tank.proofs.Works.{made-heaters, work-meets}
 use Rattle.storage_tank.proofs.Course.{work-course}
 

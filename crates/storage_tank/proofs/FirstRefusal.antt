@@ -20,8 +20,9 @@ use Rattle.draw_off.specs.Lent.{maxEvents}
 use Rattle.working_order.specs.Order.{maxHeaters}
 use Rattle.storage_tank.specs.Fixed.{placed, noHeater, notPlaced, placedHeaters, fixedOf, fixedIn, stateIn}
 use Rattle.storage_tank.specs.Checks.{unless, firstRefusal, fairHeater, layersCheck, numbersCheck, temperaturesCheck, tankChecks, stepChecks, feedCheck, pointsCheck, makeRefusal, stepRefusal}
+use Rattle.storage_tank.specs.Calls.{zeroTank, newTank, made, madeOf}
 use Rattle.storage_tank.proofs.Members.{length-tabulate, at-tabulate}
-use Rattle.storage_tank.proofs.Works.{unless-passes}
+use Rattle.storage_tank.proofs.Works.{unless-passes, tank-passes}
 
 -- ---- the first that does not pass
 
@@ -96,6 +97,21 @@ module _ (m : TankDesign) where
 
   pub make-last : (k r : ℕ) → k ≡ firstRefusal (firstChecks (fixedOf m .cylinder) (m .heaters)) → k ≡ 0 → r ≡ firstRefusal (lastChecks (fixedOf m .cylinder) (m .heaters) (m .fitted) (finite (m .initial))) → r ≡ makeRefusal (fixedOf m) (m .initial)
   make-last k r e z f = f ∙ none-first (firstChecks (fixedOf m .cylinder) (m .heaters)) (lastChecks (fixedOf m .cylinder) (m .heaters) (m .fitted) (finite (m .initial))) (sym e ∙ z) ∙ made-of
+
+  -- what make answers
+
+  pub made-refused : (k : ℕ) → k ≡ makeRefusal (fixedOf m) (m .initial) → (k ≡ 0 → ⊥) → record { number = k; tank = zeroTank } ≡ made m
+  unfolding made madeOf
+  made-refused zero e n = absurd (n refl)
+  made-refused (suc k) e n = rw (← e)
+
+  pub made-accepted : makeRefusal (fixedOf m) (m .initial) ≡ 0 → record { number = 0; tank = newTank m } ≡ made m
+  unfolding made madeOf
+  made-accepted e = rw e
+
+  pub made-layers : makeRefusal (fixedOf m) (m .initial) ≡ 0 → m .layers ≤ maxLayers
+  unfolding makeRefusal
+  made-layers e = leb→le (m .layers) maxLayers (and-r (leb 1 (m .layers)) (leb (m .layers) maxLayers) (tank-passes (fixedOf m) (finite (m .initial)) [] e .layers))
 
 -- ---- what a step is refused for, by its parts
 

@@ -2,9 +2,11 @@ pub mod Latch
 pub mod Members
 pub mod Order
 pub mod Steps
-pub mod Turns
+pub mod TurnFacts
 pub mod Works
 pub mod Course
 pub mod Demand
 pub mod Calls
 pub mod FirstRefusal
+pub mod Filling
+pub mod TurnLoop

@@ -30,7 +30,7 @@ use Rattle.storage_tank.specs.Demand.{EventOrderedOrNine}
 use Rattle.storage_tank.proofs.Members.{all-map}
 use Rattle.storage_tank.proofs.Order.{heater-is, heaters-many, order-below, order-once}
 use Rattle.storage_tank.proofs.Steps.{Sorted, rearrange-sorted, end-reach, Meets, then-meets, meets-map, closing-meets, Law, both, law-still}
-use Rattle.storage_tank.proofs.Turns.{Fair, Right, turn-meets}
+use Rattle.storage_tank.proofs.TurnFacts.{Fair, Right, turn-meets}
 
 -- ---- the checks
 

@@ -2,6 +2,7 @@ pub mod Fixed
 pub mod Order
 pub mod Checks
 pub mod Work
+pub mod Lent
 pub mod History
 pub mod Calls
 pub mod Members

@@ -1,6 +1,8 @@
 // The storage tank: what the calls make and step take and answer. A count may be any number; what is past it in an array is not looked at.
 pub mod checks;
+pub mod make;
 pub mod refusals;
+pub mod turns;
 
 use draw_off::event::MAX_EVENTS;
 use heating::SetPoints;

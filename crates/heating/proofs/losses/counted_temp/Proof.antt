@@ -13,7 +13,10 @@ min-of-2-requires : tie.Need-min-of-2-requires
 min-of-2-requires c κs = search needs
 
 returns : tie.Need-returns
-returns c = rw (← c .before .before .before .before .has-upper .ensures, c .before .before .before .if1 .taken, c .before .before .if2 .taken, c .min-of-2 .ensures, c .before .upper-of .ensures)
+returns c =
+    let second = c .before .before in
+    let first = second .before in
+    rw (← first .before .has-upper .ensures, first .if1 .taken, second .if2 .taken, c .min-of-2 .ensures, c .before .upper-of .ensures)
 
 returns-2 : tie.Need-returns-2
 returns-2 c = rw (← c .before .before .has-upper .ensures, c .before .if1 .taken, c .if2 .left)

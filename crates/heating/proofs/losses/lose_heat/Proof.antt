@@ -92,17 +92,18 @@ loop-less c = search needs
 loop-again : tie.Need-loop-again Inv-loop μ-loop
 loop-again c =
     let limited = c .before in
-    let added = c .before .before .before .before .before in
-    let lost = c .before .before .before .before .before .before .before .before .before in
-    let test = c .before .before .before .before .before .before .before .before .before .before .before .before in
-    let at = test .before in
+    let added = limited .before .before .before .before in
+    let warmed = added .before in
+    let lost = warmed .before .before .before in
+    let test = lost .before .before .before in
+    let at = test .before .loop in
     let l = test .loop-test .taken in
-    let t = at .loop .inv .0 .untouched (at .loop .k) (le-refl _) in
-    let q = at .loop .inv .1 .untouched (at .loop .k) (le-refl _) in
+    let t = at .inv .0 .untouched (at .k) (le-refl _) in
+    let q = at .inv .1 .untouched (at .k) (le-refl _) in
     let e = lost .thermal-loss .ensures ∙ loss-local _ _ _ _ _ _ _ _ _ t q in (
-      updating-turn _ _ _ _ _ _ l (at .loop .inv .0) (rw (limited .limited-temp .ensures, c .before .before .before .before .before .before .is-clearly-above .ensures) (limited-local _ _ _ _ _ _ _ _ _ t e)),
-      updating-turn _ _ _ _ _ _ l (at .loop .inv .1) (rw (q, e)),
-      rw (added .add-term .ensures, e) (rest-turn _ _ _ _ _ l (at .loop .inv .2)),
+      updating-turn _ _ _ _ _ _ l (at .inv .0) (rw (limited .limited-temp .ensures, warmed .is-clearly-above .ensures) (limited-local _ _ _ _ _ _ _ _ _ t e)),
+      updating-turn _ _ _ _ _ _ l (at .inv .1) (rw (q, e)),
+      rw (added .add-term .ensures, e) (rest-turn _ _ _ _ _ l (at .inv .2)),
     )
 
 total-of-requires : tie.Need-total-of-requires Inv-loop μ-loop

@@ -15,11 +15,15 @@ is-reached-requires c κs = search needs
 
 returns : tie.Need-returns
 unfolding switchOff upperMissingOrReached
-returns c = rw (← c .before .before .before .before .has-upper .ensures, c .before .before .before .if1 .taken, ← c .before .before .upper-of .ensures, ← c .before .is-reached .ensures, c .if2 .taken)
+returns c =
+    let first = c .before .before .before in
+    rw (← first .before .has-upper .ensures, first .if1 .taken, ← c .before .before .upper-of .ensures, ← c .before .is-reached .ensures, c .if2 .taken)
 
 returns-2 : tie.Need-returns-2
 unfolding switchOff upperMissingOrReached
-returns-2 c = rw (← c .before .before .before .before .has-upper .ensures, c .before .before .before .if1 .taken, ← c .before .before .upper-of .ensures, ← c .before .is-reached .ensures, c .if2 .left)
+returns-2 c =
+    let first = c .before .before .before in
+    rw (← first .before .has-upper .ensures, first .if1 .taken, ← c .before .before .upper-of .ensures, ← c .before .is-reached .ensures, c .if2 .left)
 
 returns-3 : tie.Need-returns-3
 unfolding switchOff upperMissingOrReached

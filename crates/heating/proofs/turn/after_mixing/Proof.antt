@@ -32,10 +32,15 @@ number-of-requires c κs = search needs
 returns : tie.Need-returns
 unfolding afterMixing turnNumber turnFinite adjustedInput input
 returns c =
-    let done = c .before .before .before .before .before .before .calc-temps-after-thermal-losses .ensures in
+    let finite = c .before in
+    let off = finite .before .before in
+    let supplied = off .before .before in
+    let lost = supplied .before in
+    let input = lost .before .before .before in
+    let done = lost .calc-temps-after-thermal-losses .ensures in
     record {
       answers =
-          rw (c .number-of .ensures, c .before .is-turn-finite .ensures, c .before .before .before .determine-heat-source-switch-off .ensures, c .before .before .before .before .before .demand-energy .ensures, done .0, done .1, done .2, c .before .before .before .before .before .before .before .before .before .energy-input .ensures);
+          rw (c .number-of .ensures, finite .is-turn-finite .ensures, off .determine-heat-source-switch-off .ensures, supplied .demand-energy .ensures, done .0, done .1, done .2, input .energy-input .ensures);
       leaves = done .2;
       charges = done .3;
     }

@@ -1,0 +1,27 @@
+-- `StorageTank::new`, the call make, meets its contract (01, The four calls).
+use mathlib.Core.Path.{sym, _∙_}
+use Rattle.storage_tank.specs.Fixed.{fixedOf}
+use Rattle.storage_tank.proofs.FirstRefusal.{made-refused, made-accepted, made-layers}
+use borrow.Author.Needs.{needs}
+use Rattle.storage_tank.proofs.StorageTank.new.Statement.{statement}
+use Rattle.storage_tank.proofs.StorageTank.new.Tie as tie
+
+make-refusal-requires : tie.Need-make-refusal-requires
+make-refusal-requires c κs = search needs
+
+zero-tank-requires : tie.Need-zero-tank-requires
+zero-tank-requires c κs = search needs
+
+returns : tie.Need-returns
+returns c = rw (c .zero-tank .ensures) (made-refused _ _ (c .before .before .make-refusal .ensures) (c .before .if1 .taken))
+
+new-tank-requires : tie.Need-new-tank-requires
+new-tank-requires c κs = made-layers _ (sym (c .before .make-refusal .ensures) ∙ c .if1 .left)
+
+returns-2 : tie.Need-returns-2
+returns-2 c = rw (c .new-tank .ensures) (made-accepted _ (sym (c .before .before .make-refusal .ensures) ∙ c .before .if1 .left))
+
+pub new-spec : {M : Type 1} → statement M
+new-spec =
+    tie.close
+    (tie.spec make-refusal-requires zero-tank-requires returns new-tank-requires returns-2)
