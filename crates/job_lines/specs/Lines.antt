@@ -1,15 +1,21 @@
 -- States the lines that a job prints (01, Job): S, L and H of a step, and E of a refusal outside a step.
-use Prim.Native.Nat.{ℕ, zero, suc, _+_}
+use Prim.Native.Nat.{ℕ, zero, suc, _+_, _≤_}
+use borrow.Author.Tests.{le-leb}
 use native.Mathlib.Numerals.{add-one}
 use mathlib.Core.Path.{_≡_}
 use mathlib.Core.Bool.{false, cond}
 use mathlib.Core.List.{List, [], _∷_, _++_}
-use lib.Dec.{leb}
+use lib.Dec.{leb, eqb}
 use lib.ListN.{getD}
 use lib.Ieee.{Float, nan}
 use Rattle.mixing.specs.Limits.{maxLayers}
 use Rattle.storage_tank.specs.declared.HeaterLine.{HeaterLine}
 use Rattle.storage_tank.specs.declared.Report.{Report}
+use Rattle.storage_tank.specs.declared.StorageTank.{StorageTank}
+use Rattle.storage_tank.specs.declared.Stepped.{Stepped}
+use Rattle.storage_tank.specs.Fixed.{placedHeaters, fixedIn}
+use Rattle.storage_tank.specs.Order.{workingOrder}
+use Rattle.working_order.specs.Order.{maxHeaters}
 use Rattle.job_lines.specs.Text.{newline, numberText, doubleText}
 
 -- a count of places, of which there are no more than `most`
@@ -75,3 +81,23 @@ refusedLines index number layers temps = headText index number ++ (newline ∷ [
 unfoldable pub acceptedLines : ℕ → Report → ℕ → List Float → ℕ → List ℕ → List ℕ
 acceptedLines index report layers temps heaters order =
     headText index 0 ++ totalsText report ++ layersLine (atMost layers maxLayers) temps ++ heaterLines heaters order (report .lines)
+
+-- the heaters in working order; a tank says of no more than it has places for
+abbrev pub shownHeaters : StorageTank → ℕ
+shownHeaters t = atMost (t .heaters) maxHeaters
+
+abbrev pub shownOrder : StorageTank → List ℕ
+shownOrder t = workingOrder (record { cylinder = fixedIn t .cylinder; heaters = placedHeaters (shownHeaters t) (t .fitted) })
+
+-- a step's lines, by its number
+unfoldable pub stepLines : ℕ → Stepped → List ℕ
+stepLines index s =
+    let t = s .tank in
+    cond (eqb (s .number) 0)
+    (acceptedLines index (s .report) (t .layers) (t .temps) (shownHeaters t) (shownOrder t))
+    (refusedLines index (s .number) (t .layers) (t .temps))
+
+-- the order is the step's own, for a tank whose heaters have places
+pub shown-order : (t : StorageTank) → t .heaters ≤ maxHeaters → shownOrder t ≡ workingOrder (fixedIn t)
+unfolding atMost
+shown-order t h = rw (le-leb (t .heaters) maxHeaters h)

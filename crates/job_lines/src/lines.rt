@@ -6,13 +6,14 @@ ghost use lib.ListN.{length, getD};
 ghost use Rattle.mixing.specs.Limits.{maxLayers};
 ghost use Rattle.working_order.specs.Order.{maxHeaters};
 ghost use Rattle.job_lines.specs.Put.{Put, written};
-ghost use Rattle.job_lines.specs.Lines.{atMost, headText, totalsText, layersText, layersLine, heaterLine, heaterLines, refusalLine, refusedLines, acceptedLines};
+ghost use Rattle.job_lines.specs.Lines.{atMost, headText, totalsText, layersText, layersLine, heaterLine, heaterLines, refusalLine, refusedLines, acceptedLines, stepLines};
 use crate::text::put_byte;
 use crate::text::put_double;
 use crate::text::put_number;
 use mixing::limits::MAX_LAYERS;
 use storage_tank::HeaterLine;
 use storage_tank::Report;
+use storage_tank::Stepped;
 use working_order::MAX_HEATERS;
 
 // There are no more places than `most`, whatever a count says.
@@ -118,7 +119,7 @@ pub fn refusal_line(buf: &mut [u8], number: u8, offset: usize) -> usize
 }
 
 // A refused step's lines: its head, and the layers as they were.
-pub fn refused_lines(
+fn refused_lines(
     buf: &mut [u8],
     index: usize,
     number: u8,
@@ -134,7 +135,7 @@ pub fn refused_lines(
 }
 
 // An accepted step's lines: its head with the totals, the layers, and the heaters in an order.
-pub fn accepted_lines(
+fn accepted_lines(
     buf: &mut [u8],
     index: usize,
     report: Report,
@@ -152,4 +153,21 @@ pub fn accepted_lines(
     let c = put_layers_line(buf, b, n, temps);
     let lines = report.lines;
     put_heater_lines(buf, c, heaters, order, lines)
+}
+
+// A step's lines, by its number. Its heaters are printed in working order.
+pub fn step_lines(buf: &mut [u8], index: usize, s: Stepped) -> usize
+    ensures { λ r. ⌜ (r ≡ length (stepLines index s)) × (now (buf .exit) ≡ written (now (buf .entry)) (stepLines index s)) ⌝ }
+{
+    let t = s.tank;
+    let temps = t.temps;
+    if s.number != 0 {
+        return refused_lines(buf, index, s.number, t.layers, &temps);
+    }
+    let report = s.report;
+    let fitted = t.fitted;
+    let n = at_most(t.heaters, MAX_HEATERS);
+    let positions = storage_tank::turns::positions_of(fitted);
+    let order = working_order::working_order(n, &positions);
+    accepted_lines(buf, index, report, t.layers, &temps, n, order)
 }

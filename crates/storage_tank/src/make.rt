@@ -8,7 +8,6 @@ ghost use lib.ListN.{drop, replicate};
 ghost use Rattle.numeric.specs.Double.{zero-f};
 ghost use Rattle.mixing.specs.Limits.{maxLayers};
 ghost use Rattle.storage_tank.specs.Calls.{zeroHeater, cleanHeater, fittedHeaters, zeroTank, newTank, made};
-
 use crate::Heater;
 use crate::Made;
 use crate::StorageTank;

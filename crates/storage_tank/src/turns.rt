@@ -15,7 +15,6 @@ ghost use Rattle.storage_tank.specs.Fixed.{placed, noHeater, placedHeate
 ghost use Rattle.storage_tank.specs.Order.{workingOrder};
 ghost use Rattle.storage_tank.specs.Work.{zeroLine, turns, endBy};
 ghost use Rattle.storage_tank.specs.Lent.{immersion, settingsOnly, noTurns, afterHeat, TurnWorked, progressOf};
-
 use crate::Heater;
 use crate::HeaterLine;
 use crate::Setting;
@@ -100,7 +99,7 @@ fn heat_turn(
 }
 
 // The heaters' positions, as given.
-fn positions_of(fitted: [Heater; MAX_HEATERS]) -> [f64; MAX_HEATERS]
+pub fn positions_of(fitted: [Heater; MAX_HEATERS]) -> [f64; MAX_HEATERS]
     ensures { λ r. ⌜ r ≡ tabulate (λ (h : ℕ). getD fitted h noHeater .position) maxHeaters 0 ⌝ }
 {
     let mut positions = [0.0; MAX_HEATERS];
