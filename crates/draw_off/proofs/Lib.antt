@@ -1,4 +1,6 @@
 pub mod Descents
 pub mod Filled
+pub mod Keeps
+pub mod NoDraw
 pub mod Numbers
 pub mod Worked

@@ -1,5 +1,4 @@
 -- Proves how an event's number is found in turn (01, refusals 9 and 10): first the mixing's, then that of what is not finite.
-use Prim.Native.Nat.{ℕ}
 use native.Mathlib.Omega.{arith}
 use mathlib.Core.Path.{_≡_, refl}
 use mathlib.Core.Bool.{Bool, true, cond}

@@ -21,12 +21,23 @@ use Rattle.draw_off.specs.Lent.{drawOf, refillOf, drawingOf, drawingAfte
 abbrev totalsWith : Totals → Drawn → Float → Totals
 totalsWith t d used = record { energy = t .energy ⊕ d .energy; used = t .used ⊕ used; weighted = d .weighted; drawn = d .drawn }
 
-module _ (c : Cylinder) (feed : Float) where
-  pub event-worked : (wanted : Float) (temps : List Float) (t : Totals) (vol : List Float) → vol ≡ layerVolumes c → (held : List Float) (d : Drawn) (used : Float) → drawOf held d ≡ extract c vol feed temps wanted (t .weighted) (t .drawn) → used ≡ volumeUsed c held → (given filled : List Float) (mixes : Bool) → refillOf given filled mixes ≡ refill (c .layers) vol feed temps held → (after : List Float) (finite : Bool) (first number : ℕ) → (first ≡ numberAfter (eventMixing mixes c filled) true) × (after ≡ mixedTemps filled (eventMixing mixes c filled)) → finite ≡ eventFinite c after (totalsWith t d used) → ((m : EventMixing) → first ≡ numberAfter m true → number ≡ numberAfter m finite) → drawingOf after (record { number = number; totals = totalsWith t d used }) ≡ drawingAfter c (eventOf c feed wanted temps t) t
-  unfolding eventOf tempsAfterEvent totalsAfterEvent eventNumber
-  event-worked wanted temps t vol v held d used draws uses given filled mixes fills after finite first number mixing tested told =
-      rw (← v, ← draws, ← fills, told (eventMixing mixes c filled) (mixing .0), tested, mixing .1, uses)
+-- what the code finds in turn, where `vol` holds the layer volumes: the draw leaves `held` and d, the refill leaves `filled`, the mixing leaves `after`
+pub record EventParts (c : Cylinder) (feed wanted : Float) (temps : List Float) (t : Totals) (vol held : List Float) (d : Drawn) (used : Float) (given filled : List Float) (mixes : Bool) (after : List Float) (finite : Bool) (first number : ℕ) : Type 0 where
+  pub full : vol ≡ layerVolumes c
+  pub draws : drawOf held d ≡ extract c vol feed temps wanted (t .weighted) (t .drawn)
+  pub uses : used ≡ volumeUsed c held
+  pub fills : refillOf given filled mixes ≡ refill (c .layers) vol feed temps held
+  -- the mixing's number and its layers
+  pub mixing : (first ≡ numberAfter (eventMixing mixes c filled) true) × (after ≡ mixedTemps filled (eventMixing mixes c filled))
+  pub tested : finite ≡ eventFinite c after (totalsWith t d used)
+  pub told : (m : EventMixing) → first ≡ numberAfter m true → number ≡ numberAfter m finite
 
+pub event-worked : (c : Cylinder) (feed wanted : Float) (temps : List Float) (t : Totals) (vol held : List Float) (d : Drawn) (used : Float) (given filled : List Float) (mixes : Bool) (after : List Float) (finite : Bool) (first number : ℕ) → EventParts c feed wanted temps t vol held d used given filled mixes after finite first number → drawingOf after (record { number = number; totals = totalsWith t d used }) ≡ drawingAfter c (eventOf c feed wanted temps t) t
+unfolding eventOf tempsAfterEvent totalsAfterEvent eventNumber
+event-worked c feed wanted temps t vol held d used given filled mixes after finite first number w =
+    rw (← w .full, ← w .draws, ← w .fills, w .told (eventMixing mixes c filled) (w .mixing .0), w .tested, w .mixing .1, w .uses)
+
+module _ (c : Cylinder) (feed : Float) where
   -- with no event left, the events have come to what they have come to
   pub events-end : (v : ℕ → Float) (n k : ℕ) (temps : List Float) (t : Totals) (R : Drawing) → n ≤ k → drawAll c feed (tabulate v (n - k) k) 0 temps t ≡ R → record { number = 0; temps = temps; totals = t } ≡ R
   unfolding tabulate drawAll

@@ -141,10 +141,9 @@ fn draw_feed(c: Cylinder, feed: f64, d: Drawn) -> Drawn
     d
 }
 
-// The event of the volume `wanted`, from full layers; `held` is left with what each of them still holds.
+// The event of the volume `wanted`: `held` comes with full layers, and is left with what each of them still holds.
 pub fn extract_hot_water(
     c: Cylinder,
-    vol: &[f64; MAX_LAYERS],
     feed: f64,
     temps: &[f64; MAX_LAYERS],
     wanted: f64,
@@ -153,9 +152,8 @@ pub fn extract_hot_water(
     held: &mut [f64; MAX_LAYERS],
 ) -> Drawn
     requires { ⌜ c .layers ≤ maxLayers ⌝ }
-    ensures { λ r. ⌜ drawOf (now (held .exit)) r ≡ extract c (now (vol .entry)) feed (now (temps .entry)) wanted weighted drawn ⌝ }
+    ensures { λ r. ⌜ drawOf (now (held .exit)) r ≡ extract c (now (held .entry)) feed (now (temps .entry)) wanted weighted drawn ⌝ }
 {
-    *held = *vol;
     let start = Drawn {
         rest: wanted,
         energy: 0.0,

@@ -86,7 +86,6 @@ pub fn draw_event(
     let mut held = *vol;
     let d = crate::draw::extract_hot_water(
         c,
-        vol,
         feed,
         temps,
         wanted,

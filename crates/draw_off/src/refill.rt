@@ -70,11 +70,12 @@ fn take_from(
 fn take_from_feed(feed: f64, f: LayerFilling) -> LayerFilling
     ensures { λ r. ⌜ ((vol before held : List Float) → fillingWith held r ≡ fromFeed vol feed before (fillingWith held f)) ⌝ }
 {
-    if f.lack > 0.0 {
+    let v = f.lack;
+    if v > 0.0 {
         return LayerFilling {
-            lack: f.lack,
-            volume: f.volume + f.lack,
-            weighted: f.weighted + f.lack * crate::cold::cold_temp(feed, f.lack),
+            lack: v,
+            volume: f.volume + v,
+            weighted: f.weighted + v * crate::cold::cold_temp(feed, v),
             coldest: f.coldest,
         };
     }
@@ -86,7 +87,8 @@ fn does_enter_warmer(feed: f64, f: LayerFilling) -> bool
     ensures { λ r. ⌜ ((vol before held : List Float) → r ≡ entersWarmer vol feed before (fillingWith held f)) ⌝ }
 {
     if f.lack > 0.0 {
-        return crate::cold::cold_temp(feed, f.lack) > f.coldest;
+        let cool = crate::cold::cold_temp(feed, f.lack);
+        return cool > f.coldest;
     }
     false
 }

@@ -3,3 +3,4 @@ pub mod Infinity
 pub mod WholePart
 pub mod Layer
 pub mod NotANumber
+pub mod Difference

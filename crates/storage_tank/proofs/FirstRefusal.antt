@@ -43,6 +43,12 @@ some-first [] ys l = absurd (omega arith)
 some-first (zero ∷ xs) ys l = some-first xs ys l
 some-first (suc n ∷ xs) ys l = refl
 
+parts-pass : (xs ys : List ℕ) → firstRefusal (xs ++ ys) ≡ 0 → (firstRefusal xs ≡ 0) × (firstRefusal ys ≡ 0)
+unfolding firstRefusal
+parts-pass [] ys e = (refl, e)
+parts-pass (zero ∷ xs) ys e = parts-pass xs ys e
+parts-pass (suc n ∷ xs) ys e = absurd (omega arith)
+
 -- ---- the checks of a tank
 
 abbrev pub fairAt : List Heater → ℕ → Bool
@@ -140,3 +146,10 @@ module _ (t : StorageTank) (a : Step) where
 
   pub step-last : (k l r : ℕ) → k ≡ firstRefusal first → k ≡ 0 → l ≡ firstRefusal middle → l ≡ 0 → r ≡ firstRefusal stepLast → r ≡ stepRefusal (fixedIn t) (stateIn t) a
   step-last k l r e z f y g = g ∙ none-first middle stepLast (sym f ∙ y) ∙ none-first first (middle ++ stepLast) (sym e ∙ z) ∙ step-of
+
+  -- a step that passes passes each part
+  pub step-parts : stepRefusal (fixedIn t) (stateIn t) a ≡ 0 → (firstRefusal first ≡ 0) × (firstRefusal stepLast ≡ 0)
+  step-parts e =
+      let whole : firstRefusal (first ++ (middle ++ stepLast)) ≡ 0 = step-of ∙ e in
+      let p = parts-pass first (middle ++ stepLast) whole in
+      (p .0, parts-pass middle stepLast (p .1) .1)

@@ -10,3 +10,4 @@ pub mod Calls
 pub mod FirstRefusal
 pub mod Filling
 pub mod TurnLoop
+pub mod StepWorked

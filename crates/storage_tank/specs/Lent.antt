@@ -15,6 +15,8 @@ use Rattle.working_order.specs.Order.{maxHeaters}
 use Rattle.storage_tank.specs.declared.Heater.{Heater}
 use Rattle.storage_tank.specs.declared.Setting.{Setting}
 use Rattle.storage_tank.specs.declared.Step.{Step}
+use Rattle.storage_tank.specs.declared.StorageTank.{StorageTank}
+use Rattle.storage_tank.specs.declared.Stepped.{Stepped}
 use Rattle.storage_tank.specs.declared.turns.Heated.{Heated}
 use Rattle.storage_tank.specs.Fixed.{placed}
 use Rattle.storage_tank.specs.Work.{Progress, lineOf, zeroLine}
@@ -56,4 +58,28 @@ progressOf t average temps charged s = record {
   charged = charged;
   losses = s .losses;
   lines = s .lines;
+}
+
+-- before the first event
+abbrev pub noTotals : Totals
+noTotals = record { energy = zero-f; used = zero-f; weighted = zero-f; drawn = zero-f }
+
+-- the answer of an accepted step, from where its work ended
+abbrev pub acceptedStep : StorageTank → List Float → Totals → Float → Float → Heated → Stepped
+acceptedStep t temps totals average recoverable h = record {
+  number = 0;
+  tank = record {
+    layers = t .layers;
+    volume = t .volume;
+    standby = t .standby;
+    rho = t .rho;
+    cp = t .cp;
+    ambient = t .ambient;
+    timestep = t .timestep;
+    temps = temps;
+    heaters = t .heaters;
+    fitted = t .fitted;
+    flags = h .flags;
+  };
+  report = record { energy = totals .energy; used = totals .used; average = average; recoverable = recoverable; lines = h .lines };
 }

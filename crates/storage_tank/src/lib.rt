@@ -1,5 +1,6 @@
 // The storage tank: what the calls make and step take and answer. A count may be any number; what is past it in an array is not looked at.
 pub mod checks;
+pub mod hot_water;
 pub mod make;
 pub mod refusals;
 pub mod turns;

@@ -32,7 +32,7 @@ pub struct Heated {
     pub lines: [HeaterLine; MAX_HEATERS],
 }
 
-fn zero_line() -> HeaterLine
+pub fn zero_line() -> HeaterLine
     ensures { λ r. ⌜ r ≡ zeroLine ⌝ }
 {
     HeaterLine {

@@ -1,4 +1,4 @@
--- `cold::cold_temp` meets its contract: the quotient of the two sums.
+-- `cold::cold_temp` meets its contract (01, Arithmetic underneath): the quotient of the two sums.
 use Rattle.draw_off.specs.Cold.{cold}
 use borrow.Author.Needs.{needs}
 use Rattle.draw_off.proofs.cold.cold_temp.Statement.{statement}

@@ -1,4 +1,4 @@
--- `cold::sum2_of_one` meets its contract: the one term is added to nothing.
+-- `cold::sum2_of_one` meets its contract (01, Arithmetic underneath): the one term is added to nothing.
 use Rattle.numeric.specs.Sum2.{accumulateAll, sum2}
 use borrow.Author.Needs.{needs}
 use Rattle.draw_off.proofs.cold.sum2_of_one.Statement.{statement}

@@ -1,4 +1,4 @@
--- `draw::does_give_all` meets its contract: smaller, or else narrow-close.
+-- `draw::does_give_all` meets its contract (01, Draw): smaller, or else narrow-close.
 use Rattle.draw_off.specs.Draw.{givesAll}
 use borrow.Author.Needs.{needs}
 use Rattle.draw_off.proofs.draw.does_give_all.Statement.{statement}

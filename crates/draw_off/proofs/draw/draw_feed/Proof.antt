@@ -1,4 +1,4 @@
--- `draw::draw_feed` meets its contract: a rest above zero counts at the feed's temperature, over water at cold(rest).
+-- `draw::draw_feed` meets its contract (01, Draw): a rest above zero counts at the feed's temperature, over water at cold(rest).
 use Rattle.draw_off.specs.Draw.{drawFeed}
 use borrow.Author.Needs.{needs}
 use Rattle.draw_off.proofs.draw.draw_feed.Statement.{statement}

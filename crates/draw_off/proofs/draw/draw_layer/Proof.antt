@@ -1,4 +1,4 @@
--- `draw::draw_layer` meets its contract: an emptied layer is skipped, and any other gives its share.
+-- `draw::draw_layer` meets its contract (01, Draw): an emptied layer is skipped, and any other gives its share.
 use Rattle.draw_off.specs.Draw.{drawLayer}
 use borrow.Author.Needs.{needs}
 use Rattle.draw_off.proofs.draw.draw_layer.Statement.{statement}

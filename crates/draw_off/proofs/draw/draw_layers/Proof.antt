@@ -1,4 +1,4 @@
--- `draw::draw_layers` meets its contract. The loop's invariant: drawing from the layers left gives the whole draw.
+-- `draw::draw_layers` meets its contract (01, Draw). The loop's invariant: drawing from the layers left gives the whole draw.
 use Rattle.numeric.specs.Descent.{Descent, descent-start, descent-turn, descent-stop, descent-end}
 use mathlib.Core.Path.{sym, _∙_}
 use Rattle.draw_off.specs.Draw.{drawLayer}

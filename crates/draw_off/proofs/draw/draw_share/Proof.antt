@@ -1,4 +1,4 @@
--- `draw::draw_share` meets its contract: the share, the rest and the cold water are those of the definition.
+-- `draw::draw_share` meets its contract (01, Draw): the share, the rest and the cold water are those of the definition.
 use Rattle.draw_off.specs.Draw.{drawShare}
 use borrow.Author.Needs.{needs}
 use Rattle.draw_off.proofs.draw.draw_share.Statement.{statement}

@@ -1,4 +1,4 @@
--- `draw::extract_hot_water` meets its contract: the layers from full ones, and then the feed.
+-- `draw::extract_hot_water` meets its contract (01, Draw): the layers from full ones, and then the feed.
 use Rattle.draw_off.specs.Draw.{extract}
 use borrow.Author.Needs.{needs}
 use Rattle.draw_off.proofs.draw.extract_hot_water.Statement.{statement}

@@ -1,4 +1,4 @@
--- `draw::rest_after` meets its contract: the layer gives all, or it gives the rest.
+-- `draw::rest_after` meets its contract (01, Draw): the layer gives all, or it gives the rest.
 use Rattle.draw_off.specs.Draw.{restAfter}
 use borrow.Author.Needs.{needs}
 use Rattle.draw_off.proofs.draw.rest_after.Statement.{statement}

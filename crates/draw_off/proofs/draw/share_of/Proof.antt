@@ -1,4 +1,4 @@
--- `draw::share_of` meets its contract: the layer gives all, or it gives the rest.
+-- `draw::share_of` meets its contract (01, Draw): the layer gives all, or it gives the rest.
 use Rattle.draw_off.specs.Draw.{share}
 use borrow.Author.Needs.{needs}
 use Rattle.draw_off.proofs.draw.share_of.Statement.{statement}

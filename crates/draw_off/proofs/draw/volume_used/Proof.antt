@@ -1,8 +1,7 @@
--- `draw::volume_used` meets its contract. The loop's invariant: the accumulator has the layers below k, and what is left gives the whole sum.
+-- `draw::volume_used` meets its contract (01, Draw). The loop's invariant: the accumulator has the layers below k, and what is left gives the whole sum.
 use Prim.Native.Nat.{ℕ, _-_}
-use mathlib.Core.List.{List}
 use lib.ListN.{getD}
-use lib.Ieee.{Float, nan}
+use lib.Ieee.{nan}
 use Rattle.numeric.specs.Turns.{Rest, rest-start, rest-turn, rest-end}
 use Rattle.numeric.specs.Sum2.{sumTurn, sum2-turns}
 use Rattle.draw_off.specs.Draw.{volumeUsed}

@@ -1,4 +1,4 @@
--- `event::draw_event` meets its contract: the draw, the refill, the mixing and the event's number, in the order of the work.
+-- `event::draw_event` meets its contract (01, Draw; Refill; refusals 9 and 10): the draw, the refill, the mixing and the event's number, in the order of the work.
 use Rattle.draw_off.proofs.Worked.{event-worked}
 use borrow.Author.Needs.{needs}
 use Rattle.draw_off.proofs.event.draw_event.Statement.{statement}
@@ -31,7 +31,15 @@ returns c =
     let draw = used .before .before .before .before in
     let start = draw .before .before .before .before in
     let a = start .args in
-    event-worked (a .c) (a .feed) (a .wanted) (a .temps .now) (a .totals) (a .vol .now) (start .pre .2) _ (draw .extract-hot-water .result) _ (draw .extract-hot-water .ensures) (used .volume-used .ensures) _ _ _ (refill .calc-temps-after-extraction .ensures) _ _ _ _ (mixing .mix-event .ensures) (finite .is-event-finite .ensures) (c .number-after .ensures)
+    event-worked (a .c) (a .feed) (a .wanted) (a .temps .now) (a .totals) (a .vol .now) _ (draw .extract-hot-water .result) _ _ _ _ _ _ _ _ record {
+      full = start .pre .2;
+      draws = draw .extract-hot-water .ensures;
+      uses = used .volume-used .ensures;
+      fills = refill .calc-temps-after-extraction .ensures;
+      mixing = mixing .mix-event .ensures;
+      tested = finite .is-event-finite .ensures;
+      told = c .number-after .ensures;
+    }
 
 pub draw-event-spec : {M : Type 1} → statement M
 draw-event-spec =

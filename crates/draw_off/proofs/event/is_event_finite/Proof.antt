@@ -1,4 +1,4 @@
--- `event::is_event_finite` meets its contract: the three tests of the definition, in its order.
+-- `event::is_event_finite` meets its contract (01, Draw; Refill; refusals 9 and 10): the three tests of the definition, in its order.
 use borrow.Author.Tests.{not-true, not-false}
 use Rattle.draw_off.specs.Event.{eventFinite}
 use borrow.Author.Needs.{needs}

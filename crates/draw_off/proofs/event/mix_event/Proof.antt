@@ -1,4 +1,4 @@
--- `event::mix_event` meets its contract: the event ends in a mixing, or it does not.
+-- `event::mix_event` meets its contract (01, Draw; Refill; refusals 9 and 10): the event ends in a mixing, or it does not.
 use mathlib.Core.Path.{refl, _∙_}
 use Rattle.mixing.specs.Rearrange.{rearrange}
 use Rattle.draw_off.specs.Event.{eventMixing}

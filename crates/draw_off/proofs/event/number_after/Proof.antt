@@ -1,4 +1,4 @@
--- `event::number_after` meets its contract: the mixing's number first, and then what is not finite.
+-- `event::number_after` meets its contract (01, Draw; Refill; refusals 9 and 10): the mixing's number first, and then what is not finite.
 use mathlib.Core.Path.{sym, _∙_}
 use Rattle.draw_off.proofs.Numbers.{number-refused, number-finite}
 use Rattle.draw_off.proofs.event.number_after.Statement.{statement}

@@ -1,10 +1,9 @@
--- `refill::calc_temps_after_extraction` meets its contract. The invariants: filling the layers left gives the whole refill; taking from the donors left
+-- `refill::calc_temps_after_extraction` meets its contract (01, Refill). The invariants: filling the layers left gives the whole refill; taking from the donors left
 -- gives what all of them give.
-use mathlib.Core.Path.{_≡_, sym, _∙_}
-use mathlib.Core.Bool.{_||_}
+use mathlib.Core.Path.{sym, _∙_}
 use mathlib.Core.Logic.{⊎-elim}
 use Rattle.numeric.specs.Descent.{Descent, descent-start, descent-turn, descent-stop, descent-end}
-use Rattle.draw_off.specs.Refill.{takeFrom, entersWarmer, refillLayer, refill}
+use Rattle.draw_off.specs.Refill.{takeFrom, refillLayer, refill}
 use Rattle.draw_off.specs.Lent.{fillingWith, refillOf}
 use Rattle.draw_off.proofs.Descents.{lackNone, lacksNone, refill-descends}
 use Rattle.draw_off.proofs.Filled.{lack-told, layer-refilled, mixes-now, mixes-still}
@@ -115,16 +114,20 @@ filling-again c =
     let a = at .before .before .args in
     let warmer = warm .does-enter-warmer .ensures (a .vol .now) (a .temps .now) (donors .donors .held) in
     rw
-    (layer-refilled (a .vol .now) (a .feed) (a .temps .now) _ (at .filling .held) (at .filling .temps) (at .filling .mixes) (donors .donors .held) (start .start-filling .result) (donors .donors .f) (fed .take-from-feed .result) _ (start .start-filling .ensures)
-    (⊎-elim
-    (λ w. descent-end _ _ _ _ _ _ (w .0 .left) (donors .donors .inv))
-    (λ w. descent-stop _ _ _ _ _ _ (w .0 .taken) (sym (w .1 .ensures) ∙ w .2 .taken) (donors .donors .inv))
-    (warm .before .donors-test .came))
-    (fed .take-from-feed .ensures _ _ _)
-    (⊎-elim
-    (λ w. mixes-now (at .filling .mixes) _ _ (sym warmer ∙ w .0 .taken) (w .1))
-    (λ w. mixes-still (at .filling .mixes) _ _ (sym warmer ∙ w .0 .left) (w .1))
-    (fed .before .if3 .came)))
+    (layer-refilled (a .vol .now) (a .feed) (a .temps .now) _ (at .filling .held) (at .filling .temps) (at .filling .mixes) (donors .donors .held) (start .start-filling .result) (donors .donors .f) (fed .take-from-feed .result) _ record {
+      starts = start .start-filling .ensures;
+      donors =
+          ⊎-elim
+          (λ w. descent-end _ _ _ _ _ _ (w .0 .left) (donors .donors .inv))
+          (λ w. descent-stop _ _ _ _ _ _ (w .0 .taken) (sym (w .1 .ensures) ∙ w .2 .taken) (donors .donors .inv))
+          (warm .before .donors-test .came);
+      fed = fed .take-from-feed .ensures _ _ _;
+      warmer =
+          ⊎-elim
+          (λ w. mixes-now (at .filling .mixes) _ _ (sym warmer ∙ w .0 .taken) (w .1))
+          (λ w. mixes-still (at .filling .mixes) _ _ (sym warmer ∙ w .0 .left) (w .1))
+          (fed .before .if3 .came);
+    })
     (descent-turn _ _ _ _ _ _ (test .filling-test .taken) (lack-told _ _ _ (start .start-filling .result) _ _ (start .start-filling .ensures) (none .before .is-no-volume .ensures) (none .if1 .left)) (at .filling .inv))
 
 returns : tie.Need-returns Inv-donors μ-donors Inv-filling μ-filling

@@ -1,4 +1,4 @@
--- `refill::does_enter_warmer` meets its contract: the two tests of the definition, in its order.
+-- `refill::does_enter_warmer` meets its contract (01, Refill): the two tests of the definition, in its order.
 use Rattle.draw_off.specs.Refill.{entersWarmer}
 use borrow.Author.Needs.{needs}
 use Rattle.draw_off.proofs.refill.does_enter_warmer.Statement.{statement}

@@ -1,4 +1,4 @@
--- `refill::take_from` meets its contract: a layer that holds more than zero gives its share, and any other is not met.
+-- `refill::take_from` meets its contract (01, Refill): a layer that holds more than zero gives its share, and any other is not met.
 use Rattle.draw_off.specs.Refill.{takeFrom}
 use borrow.Author.Needs.{needs}
 use Rattle.draw_off.proofs.refill.take_from.Statement.{statement}

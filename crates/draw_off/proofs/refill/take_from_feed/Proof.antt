@@ -1,4 +1,4 @@
--- `refill::take_from_feed` meets its contract: a lack above zero enters at cold(lack).
+-- `refill::take_from_feed` meets its contract (01, Refill): a lack above zero enters at cold(lack).
 use Rattle.draw_off.specs.Refill.{fromFeed}
 use borrow.Author.Needs.{needs}
 use Rattle.draw_off.proofs.refill.take_from_feed.Statement.{statement}
@@ -10,7 +10,7 @@ cold-temp-requires c κs = search needs
 returns : tie.Need-returns
 unfolding fromFeed
 returns c =
-    let cool = c .before .before in
+    let cool = c .before in
     λ vol before held. rw (cool .before .before .if1 .taken, cool .cold-temp .ensures)
 
 returns-2 : tie.Need-returns-2

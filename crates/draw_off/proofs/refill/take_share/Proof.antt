@@ -1,4 +1,4 @@
--- `refill::take_share` meets its contract: the operations are those of the definition, in its grouping.
+-- `refill::take_share` meets its contract (01, Refill): the operations are those of the definition, in its grouping.
 use Rattle.draw_off.specs.Refill.{takeShare}
 use borrow.Author.Needs.{needs}
 use Rattle.draw_off.proofs.refill.take_share.Statement.{statement}
