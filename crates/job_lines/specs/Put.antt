@@ -5,7 +5,7 @@ use native.Mathlib.Nat.{add-zero}
 use mathlib.Core.Path.{_≡_, refl, sym, ap, _∙_}
 use mathlib.Core.List.{List, [], _∷_, _++_}
 use lib.ListN.{length, take, drop, set, length-append}
-use lib.Seq.{sets, length-sets}
+use lib.Seq.{sets, length-sets, take-nil}
 
 -- the text as far as it fits, from the first place on, and what the buffer held after it
 abbrev pub written : List ℕ → List ℕ → List ℕ
@@ -51,3 +51,6 @@ sets-written (x ∷ b) (a ∷ t) = sets-behind a b 0 t ∙ ap (λ (l : List ℕ)
 -- a text put at the first place
 pub put-first : {b t c : List ℕ} {i : ℕ} → Put b 0 t c i → (i ≡ length t) × (c ≡ written b t)
 put-first {b} {t} p = (let e = p .ends in omega arith, p .stands ∙ sets-written b t)
+
+pub written-nothing : (b : List ℕ) → written b [] ≡ b
+written-nothing b = rw take-nil

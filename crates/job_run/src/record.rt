@@ -82,13 +82,14 @@ fn run_step(buf: &mut [u8], j: Job, next: usize, a: Step) -> Printed
 fn end_or_refuse(buf: &mut [u8], size: usize, j: Job) -> Printed
     ensures { λ r. ⌜ Turned (endTurn size j) (now (buf .entry)) (now (buf .exit)) r ⌝ }
 {
-    if j.at == size {
-        if j.at != 0 {
-            let job = end_job(j);
-            return Printed { job, length: 0 };
-        }
+    if j.at != size {
+        return refuse(buf, j, 11);
     }
-    refuse(buf, j, 11)
+    if j.at == 0 {
+        return refuse(buf, j, 11);
+    }
+    let job = end_job(j);
+    Printed { job, length: 0 }
 }
 
 // The next record of a job: its lines into the lent buffer, and the job after it.

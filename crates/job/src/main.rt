@@ -1,0 +1,37 @@
+// Reads a job of at most 65,536 bytes from standard input and prints its lines, one write for those of a record.
+ghost use mathlib.Core.Path.{_≡_};
+ghost use Prim.Native.Nat.{_≤_};
+
+use libc::STDIN_FILENO;
+use libc::STDOUT_FILENO;
+
+// A record takes at least 16 bytes, so there are fewer records, and fewer steps, than bytes.
+const MAX_BYTES: usize = 65536;
+
+fn run(bytes: &[u8]) {
+    let mut job = job_run::start::start();
+    let mut lines = io::buffer();
+    let mut turns = MAX_BYTES;
+    while 0 < turns {
+        turns -= 1;
+        if job.ended {
+            return;
+        }
+        if job.steps >= MAX_BYTES {
+            return;
+        }
+        let p = job_run::record::next_record(&mut lines, bytes, job);
+        let n = p.length;
+        if n <= lines.len() {
+            io::write_all(STDOUT_FILENO, &lines[..n]);
+        }
+        let next = p.job;
+        job = next;
+    }
+}
+
+fn main() {
+    let mut buf = io::large_buffer();
+    let n = io::read_full(STDIN_FILENO, &mut buf);
+    run(&buf[..n]);
+}
