@@ -29,7 +29,7 @@ fn initial_temps(n: usize, x: f64) -> [f64; MAX_LAYERS]
     temps
 }
 
-fn zero_heater() -> Heater
+pub fn zero_heater() -> Heater
     ensures { λ r. ⌜ r ≡ zeroHeater ⌝ }
 {
     Heater {
@@ -78,7 +78,7 @@ fn fitted_heaters(n: usize, fitted: [Heater; MAX_HEATERS]) -> [Heater; MAX_HEATE
 }
 
 // No layers, no heaters and zeros.
-fn zero_tank() -> StorageTank
+pub fn zero_tank() -> StorageTank
     ensures { λ r. ⌜ r ≡ zeroTank ⌝ }
 {
     StorageTank {

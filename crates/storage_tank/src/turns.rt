@@ -29,7 +29,7 @@ pub struct Heated {
     pub lines: [HeaterLine; MAX_HEATERS],
 }
 
-fn zero_line() -> HeaterLine
+pub fn zero_line() -> HeaterLine
     ensures { λ r. ⌜ r ≡ zeroLine ⌝ }
 {
     HeaterLine {
@@ -96,7 +96,7 @@ fn heat_turn(
 }
 
 // The heaters' positions, as given.
-fn positions_of(fitted: [Heater; MAX_HEATERS]) -> [f64; MAX_HEATERS]
+pub fn positions_of(fitted: [Heater; MAX_HEATERS]) -> [f64; MAX_HEATERS]
     ensures { λ r. ⌜ r ≡ tabulate (λ (h : ℕ). getD fitted h noHeater .position) maxHeaters 0 ⌝ }
 {
     let mut positions = [0.0; MAX_HEATERS];

@@ -1,0 +1,28 @@
+-- `lines::put_head` meets its contract (01, Job): its parts, one after the other.
+use native.Mathlib.Omega.{arith}
+use Rattle.job_lines.specs.Put.{put-then}
+use Rattle.job_lines.specs.Lines.{headText}
+use borrow.Author.Needs.{needs}
+use Rattle.job_lines.proofs.lines.put_head.Statement.{statement}
+use Rattle.job_lines.proofs.lines.put_head.Tie as tie
+
+put-byte-requires : tie.Need-put-byte-requires
+put-byte-requires c κs = search needs
+
+put-number-requires : tie.Need-put-number-requires
+put-number-requires c κs = search needs
+
+put-number-requires-2 : tie.Need-put-number-requires-2
+put-number-requires-2 c κs = search needs
+
+same-length : tie.Need-same-length
+same-length c = search needs
+
+returns : tie.Need-returns
+unfolding headText
+returns c = (put-then (put-then (c .before .before .before .before .before .before .before .before .before .before .put-byte .ensures .0) (c .before .before .before .before .before .before .put-number .ensures .0)) (c .before .before .put-number2 .ensures .0), omega arith)
+
+pub put-head-spec : {M : Type 1} → statement M
+put-head-spec =
+    tie.close
+    (tie.spec put-byte-requires put-number-requires put-number-requires-2 same-length returns)

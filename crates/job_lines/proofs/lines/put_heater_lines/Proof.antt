@@ -1,0 +1,73 @@
+-- `lines::put_heater_lines` meets its contract (01, Job). The loop's invariant: the lines of the first k heaters are put.
+use mathlib.Core.Path.{_≡_}
+use Prim.Native.Nat.{_+_, _*_, _-_, _≤_}
+use native.Mathlib.Omega.{arith}
+use Rattle.job_lines.specs.Put.{Put, put-nothing, put-then, put-length}
+use Rattle.job_lines.specs.Lines.{joined, joined-more, orderedLine, heaterLines}
+use borrow.Author.Needs.{needs}
+use Rattle.job_lines.proofs.lines.put_heater_lines.Statement.{statement}
+use Rattle.job_lines.proofs.lines.put_heater_lines.Tie as tie
+
+abbrev Inv-loop : tie.InvT-loop
+Inv-loop buf₀ at n order lines a₀ k₀ buf a k = (k ≤ n) × (a ≤ at + 95 * k) × Put buf₀ at (joined (orderedLine order lines) k) buf a
+
+abbrev μ-loop : tie.MeasureT-loop
+μ-loop buf₀ at n order lines a₀ k₀ buf a k = n - k
+
+loop-holds : tie.Need-loop-holds Inv-loop μ-loop
+unfolding joined
+loop-holds c = (omega arith, omega arith, put-nothing _ _)
+
+mul-h : tie.Need-mul-h Inv-loop μ-loop
+mul-h c = search needs
+
+array-read-h : tie.Need-array-read-h Inv-loop μ-loop
+array-read-h c = search needs
+
+mul-line : tie.Need-mul-line Inv-loop μ-loop
+mul-line c = omega (arith, c .before .before .before .pre .2 (c .before .loop .k) (omega arith))
+
+array-copy-out-line : tie.Need-array-copy-out-line Inv-loop μ-loop
+array-copy-out-line c = omega (arith, c .before .before .before .pre .2 (c .before .loop .k) (omega arith))
+
+put-heater-line-requires : tie.Need-put-heater-line-requires Inv-loop μ-loop
+put-heater-line-requires c κs = search needs
+
+add-k : tie.Need-add-k Inv-loop μ-loop
+add-k c = search needs
+
+loop-less : tie.Need-loop-less Inv-loop μ-loop
+loop-less c = search needs
+
+loop-again : tie.Need-loop-again Inv-loop μ-loop
+loop-again c =
+    let at = c .before .before .before .before .before .before .loop in
+    (omega arith, omega arith, rw (joined-more (orderedLine (c .before .before .before .before .before .before .before .before .args .t4) (c .before .before .before .before .before .before .before .before .args .t5)) (at .k)) (put-then (at .inv .2) (c .before .before .put-heater-line .ensures .0)))
+
+same-length : tie.Need-same-length Inv-loop μ-loop
+same-length c = put-length (c .before .loop .inv .2)
+
+returns : tie.Need-returns Inv-loop μ-loop
+unfolding heaterLines
+returns c =
+    let at = c .before .loop in
+    let e : at .k ≡ c .before .before .before .args .n = omega arith in
+    (rw e at (at .inv .2), omega arith)
+
+pub put-heater-lines-spec : {M : Type 1} → statement M
+put-heater-lines-spec =
+    tie.close
+    (tie.spec
+    Inv-loop
+    μ-loop
+    loop-holds
+    mul-h
+    array-read-h
+    mul-line
+    array-copy-out-line
+    put-heater-line-requires
+    add-k
+    loop-less
+    loop-again
+    same-length
+    returns)

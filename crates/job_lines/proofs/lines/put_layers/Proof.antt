@@ -1,0 +1,65 @@
+-- `lines::put_layers` meets its contract (01, Job). The loop's invariant: the text of the first k layers is put.
+use mathlib.Core.Path.{_≡_}
+use Prim.Native.Nat.{_+_, _*_, _-_, _≤_}
+use native.Mathlib.Omega.{arith}
+use Rattle.job_lines.specs.Put.{Put, put-nothing, put-then, put-length}
+use Rattle.job_lines.specs.Lines.{joined, joined-more, layerText, layersText}
+use borrow.Author.Needs.{needs}
+use Rattle.job_lines.proofs.lines.put_layers.Statement.{statement}
+use Rattle.job_lines.proofs.lines.put_layers.Tie as tie
+
+abbrev Inv-loop : tie.InvT-loop
+Inv-loop buf₀ at n temps a₀ k₀ buf a k = (k ≤ n) × (a ≤ at + 17 * k) × Put buf₀ at (joined (layerText temps) k) buf a
+
+abbrev μ-loop : tie.MeasureT-loop
+μ-loop buf₀ at n temps a₀ k₀ buf a k = n - k
+
+loop-holds : tie.Need-loop-holds Inv-loop μ-loop
+unfolding joined
+loop-holds c = (omega arith, omega arith, put-nothing _ _)
+
+mul-put-double : tie.Need-mul-put-double Inv-loop μ-loop
+mul-put-double c = search needs
+
+element-copy-out-put-double : tie.Need-element-copy-out-put-double Inv-loop μ-loop
+element-copy-out-put-double c = search needs
+
+put-double-requires : tie.Need-put-double-requires Inv-loop μ-loop
+put-double-requires c κs = search needs
+
+add-k : tie.Need-add-k Inv-loop μ-loop
+add-k c = search needs
+
+loop-less : tie.Need-loop-less Inv-loop μ-loop
+loop-less c = search needs
+
+loop-again : tie.Need-loop-again Inv-loop μ-loop
+loop-again c =
+    let at = c .before .before .before .before .before .before .loop in
+    (omega arith, omega arith, rw (joined-more (layerText (c .before .before .before .before .before .before .before .before .args .temps .now)) (at .k)) (put-then (at .inv .2) (c .before .before .put-double .ensures .0)))
+
+same-length : tie.Need-same-length Inv-loop μ-loop
+same-length c = put-length (c .before .loop .inv .2)
+
+returns : tie.Need-returns Inv-loop μ-loop
+unfolding layersText
+returns c =
+    let at = c .before .loop in
+    let e : at .k ≡ c .before .before .before .args .n = omega arith in
+    (rw e at (at .inv .2), omega arith)
+
+pub put-layers-spec : {M : Type 1} → statement M
+put-layers-spec =
+    tie.close
+    (tie.spec
+    Inv-loop
+    μ-loop
+    loop-holds
+    mul-put-double
+    element-copy-out-put-double
+    put-double-requires
+    add-k
+    loop-less
+    loop-again
+    same-length
+    returns)

@@ -1,0 +1,65 @@
+-- `lines::step_lines` meets its contract (01, Job): by the step's number; the order of the lines is the step's own.
+use mathlib.Core.Path.{_≡_, sym, ap, _∙_}
+use mathlib.Core.List.{List}
+use native.Mathlib.Omega.{arith}
+use lib.Ieee.{Float}
+use borrow.Author.Tests.{eq-eqb, ne-eqb}
+use lib.ListN.{take}
+use Rattle.working_order.specs.Order.{risingOrder}
+use Rattle.working_order.proofs.Entries.{entry}
+use Rattle.storage_tank.specs.Fixed.{fixedIn, placedHeaters}
+use Rattle.storage_tank.specs.Order.{workingOrder}
+use Rattle.storage_tank.proofs.TurnLoop.{order-is}
+use Rattle.job_lines.specs.Lines.{stepLines}
+use Rattle.job_lines.proofs.Ordered.{accepted-order}
+use borrow.Author.Needs.{needs}
+use Rattle.job_lines.proofs.lines.step_lines.Statement.{statement}
+use Rattle.job_lines.proofs.lines.step_lines.Tie as tie
+
+refused-lines-requires : tie.Need-refused-lines-requires
+refused-lines-requires c κs = search needs
+
+same-length : tie.Need-same-length
+same-length c = search needs
+
+returns : tie.Need-returns
+unfolding stepLines
+returns c = rw (ne-eqb _ _ (c .before .before .before .before .before .if1 .taken)) (c .before .before .refused-lines .ensures)
+
+at-most-requires : tie.Need-at-most-requires
+at-most-requires c κs = search needs
+
+positions-of-requires : tie.Need-positions-of-requires
+positions-of-requires c κs = search needs
+
+working-order-requires : tie.Need-working-order-requires
+working-order-requires c κs = search needs
+
+accepted-lines-requires : tie.Need-accepted-lines-requires
+accepted-lines-requires c κs = (omega arith, λ k l. omega (arith, entry _ _ _ (c .before .before .working-order .ensures) k l .1))
+
+same-length-2 : tie.Need-same-length-2
+same-length-2 c = search needs
+
+returns-2 : tie.Need-returns-2
+unfolding stepLines
+returns-2 c =
+    let args = c .before .before .before .before .before .before .before .before .before .before .before .before .before .before .before .before .args in
+    let t = args .s .tank in
+    let n = c .before .before .before .before .before .before .before .before .at-most .result in
+    let order : take n (c .before .before .before .before .before .working-order .result) ≡ workingOrder (record { cylinder = fixedIn t .cylinder; heaters = placedHeaters n (t .fitted) }) = c .before .before .before .before .before .working-order .ensures ∙ (ap (λ (ps : List Float). risingOrder ps n) (c .before .before .before .before .before .before .before .positions-of .ensures) ∙ sym (order-is (fixedIn t .cylinder) n (t .fitted) (omega arith))) in
+    rw (eq-eqb _ _ (c .before .before .before .before .before .before .before .before .before .before .before .if1 .left), ← c .before .before .before .before .before .before .before .before .at-most .ensures .0, ← accepted-order (args .index) (args .s .report) (t .layers) (t .temps) n _ _ order) (c .before .before .accepted-lines .ensures)
+
+pub step-lines-spec : {M : Type 1} → statement M
+step-lines-spec =
+    tie.close
+    (tie.spec
+    refused-lines-requires
+    same-length
+    returns
+    at-most-requires
+    positions-of-requires
+    working-order-requires
+    accepted-lines-requires
+    same-length-2
+    returns-2)

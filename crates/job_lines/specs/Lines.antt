@@ -1,0 +1,103 @@
+-- States the lines that a job prints (01, Job): S, L and H of a step, and E of a refusal outside a step.
+use Prim.Native.Nat.{ℕ, zero, suc, _+_, _≤_}
+use borrow.Author.Tests.{le-leb}
+use native.Mathlib.Numerals.{add-one}
+use mathlib.Core.Path.{_≡_}
+use mathlib.Core.Bool.{false, cond}
+use mathlib.Core.List.{List, [], _∷_, _++_}
+use lib.Dec.{leb, eqb}
+use lib.ListN.{getD}
+use lib.Ieee.{Float, nan}
+use Rattle.mixing.specs.Limits.{maxLayers}
+use Rattle.storage_tank.specs.declared.HeaterLine.{HeaterLine}
+use Rattle.storage_tank.specs.declared.Report.{Report}
+use Rattle.storage_tank.specs.declared.StorageTank.{StorageTank}
+use Rattle.storage_tank.specs.declared.Stepped.{Stepped}
+use Rattle.storage_tank.specs.Fixed.{placedHeaters, fixedIn}
+use Rattle.storage_tank.specs.Order.{workingOrder}
+use Rattle.working_order.specs.Order.{maxHeaters}
+use Rattle.job_lines.specs.Text.{newline, numberText, doubleText}
+
+-- a count of places, of which there are no more than `most`
+unfoldable pub atMost : ℕ → ℕ → ℕ
+atMost n most = cond (leb n most) n most
+
+-- the first n texts, one after the other
+unfoldable pub joined : (ℕ → List ℕ) → ℕ → List ℕ
+joined text zero = []
+joined text (suc n) = joined text n ++ text n
+
+pub joined-more : (text : ℕ → List ℕ) (n : ℕ) → joined text (n + 1) ≡ joined text n ++ text n
+unfolding joined
+joined-more text n = rw add-one
+
+-- S, the step's index and its number
+unfoldable pub headText : ℕ → ℕ → List ℕ
+headText index number = 83 ∷ numberText index ++ numberText number
+
+-- the four totals, and the line's end
+unfoldable pub totalsText : Report → List ℕ
+totalsText r = doubleText (r .energy) ++ doubleText (r .used) ++ doubleText (r .average) ++ doubleText (r .recoverable) ++ (newline ∷ [])
+
+abbrev pub layerText : List Float → ℕ → List ℕ
+layerText temps k = doubleText (getD temps k nan)
+
+unfoldable pub layersText : ℕ → List Float → List ℕ
+layersText n temps = joined (layerText temps) n
+
+-- L, and the layers, bottom first
+unfoldable pub layersLine : ℕ → List Float → List ℕ
+layersLine n temps = 76 ∷ layersText n temps ++ (newline ∷ [])
+
+-- H, flag 0 or 1, adjusted, supplied, losses, rounds
+unfoldable pub heaterLine : HeaterLine → List ℕ
+heaterLine x =
+    72 ∷ numberText (cond (x .flag) 1 0)
+    ++ doubleText (x .adjusted)
+    ++ doubleText (x .supplied)
+    ++ doubleText (x .losses)
+    ++ numberText (x .rounds)
+    ++ (newline ∷ [])
+
+-- what is read past the end of an array of lines
+abbrev pub noLine : HeaterLine
+noLine = record { flag = false; adjusted = nan; supplied = nan; losses = nan; rounds = 0 }
+
+-- a line for each heater, in an order
+abbrev pub orderedLine : List ℕ → List HeaterLine → ℕ → List ℕ
+orderedLine order lines k = heaterLine (getD lines (getD order k 0) noLine)
+
+unfoldable pub heaterLines : ℕ → List ℕ → List HeaterLine → List ℕ
+heaterLines n order lines = joined (orderedLine order lines) n
+
+-- E, a number and the record's start
+unfoldable pub refusalLine : ℕ → ℕ → List ℕ
+refusalLine number offset = 69 ∷ numberText number ++ numberText offset ++ (newline ∷ [])
+
+-- a refused step prints only its S and L lines
+unfoldable pub refusedLines : ℕ → ℕ → ℕ → List Float → List ℕ
+refusedLines index number layers temps = headText index number ++ (newline ∷ []) ++ layersLine (atMost layers maxLayers) temps
+
+unfoldable pub acceptedLines : ℕ → Report → ℕ → List Float → ℕ → List ℕ → List ℕ
+acceptedLines index report layers temps heaters order =
+    headText index 0 ++ totalsText report ++ layersLine (atMost layers maxLayers) temps ++ heaterLines heaters order (report .lines)
+
+-- the heaters in working order; a tank says of no more than it has places for
+abbrev pub shownHeaters : StorageTank → ℕ
+shownHeaters t = atMost (t .heaters) maxHeaters
+
+abbrev pub shownOrder : StorageTank → List ℕ
+shownOrder t = workingOrder (record { cylinder = fixedIn t .cylinder; heaters = placedHeaters (shownHeaters t) (t .fitted) })
+
+-- a step's lines, by its number
+unfoldable pub stepLines : ℕ → Stepped → List ℕ
+stepLines index s =
+    let t = s .tank in
+    cond (eqb (s .number) 0)
+    (acceptedLines index (s .report) (t .layers) (t .temps) (shownHeaters t) (shownOrder t))
+    (refusedLines index (s .number) (t .layers) (t .temps))
+
+-- the order is the step's own, for a tank whose heaters have places
+pub shown-order : (t : StorageTank) → t .heaters ≤ maxHeaters → shownOrder t ≡ workingOrder (fixedIn t)
+unfolding atMost
+shown-order t h = rw (le-leb (t .heaters) maxHeaters h)

@@ -1,0 +1,173 @@
+// The lines S, L, H and E.
+ghost use mathlib.Core.Path.{_≡_};
+ghost use mathlib.Core.Bool.{cond};
+ghost use Prim.Native.Nat.{ℕ, _+_, _*_, _≤_, _<_};
+ghost use lib.ListN.{length, getD};
+ghost use Rattle.mixing.specs.Limits.{maxLayers};
+ghost use Rattle.working_order.specs.Order.{maxHeaters};
+ghost use Rattle.job_lines.specs.Put.{Put, written};
+ghost use Rattle.job_lines.specs.Lines.{atMost, headText, totalsText, layersText, layersLine, heaterLine, heaterLines, refusalLine, refusedLines, acceptedLines, stepLines};
+use crate::text::put_byte;
+use crate::text::put_double;
+use crate::text::put_number;
+use mixing::limits::MAX_LAYERS;
+use storage_tank::HeaterLine;
+use storage_tank::Report;
+use storage_tank::Stepped;
+use working_order::MAX_HEATERS;
+
+// There are no more places than `most`, whatever a count says.
+fn at_most(n: usize, most: usize) -> usize
+    ensures { λ r. ⌜ (r ≡ atMost n most) × (r ≤ most) ⌝ }
+{
+    if n <= most { n } else { most }
+}
+
+fn flag_number(flag: bool) -> usize
+    ensures { λ r. ⌜ r ≡ cond flag 1 0 ⌝ }
+{
+    if flag { 1 } else { 0 }
+}
+
+// S, the step's index and its number, the line not ended.
+fn put_head(buf: &mut [u8], index: usize, number: u8) -> usize
+    ensures { λ r. ⌜ (Put (now (buf .entry)) 0 (headText index number) (now (buf .exit)) r) × (r ≤ 43) ⌝ }
+{
+    let a = put_byte(buf, 0, b'S');
+    let b = put_number(buf, a, index);
+    put_number(buf, b, number as usize)
+}
+
+// The four totals, and the line's end.
+fn put_totals(buf: &mut [u8], at: usize, report: Report) -> usize
+    requires { ⌜ at ≤ 43 ⌝ }
+    ensures { λ r. ⌜ (Put (now (buf .entry)) at (totalsText report) (now (buf .exit)) r) × (r ≤ at + 69) ⌝ }
+{
+    let a = put_double(buf, at, report.energy);
+    let b = put_double(buf, a, report.used);
+    let c = put_double(buf, b, report.average);
+    let d = put_double(buf, c, report.recoverable);
+    put_byte(buf, d, b'\n')
+}
+
+// The first n layers, each after a space.
+fn put_layers(buf: &mut [u8], at: usize, n: usize, temps: &[f64; MAX_LAYERS]) -> usize
+    requires { ⌜ (n ≤ maxLayers) × (at ≤ 200) ⌝ }
+    ensures { λ r. ⌜ (Put (now (buf .entry)) at (layersText n (now (temps .entry))) (now (buf .exit)) r) × (r ≤ at + 17 * n) ⌝ }
+{
+    let mut a = at;
+    let mut k = 0;
+    while k < n {
+        a = put_double(buf, a, temps[k]);
+        k += 1;
+    }
+    a
+}
+
+fn put_layers_line(buf: &mut [u8], at: usize, n: usize, temps: &[f64; MAX_LAYERS]) -> usize
+    requires { ⌜ (n ≤ maxLayers) × (at ≤ 199) ⌝ }
+    ensures { λ r. ⌜ (Put (now (buf .entry)) at (layersLine n (now (temps .entry))) (now (buf .exit)) r) × (r ≤ at + 546) ⌝ }
+{
+    let a = put_byte(buf, at, b'L');
+    let b = put_layers(buf, a, n, temps);
+    put_byte(buf, b, b'\n')
+}
+
+fn put_heater_line(buf: &mut [u8], at: usize, line: HeaterLine) -> usize
+    requires { ⌜ at ≤ 3000 ⌝ }
+    ensures { λ r. ⌜ (Put (now (buf .entry)) at (heaterLine line) (now (buf .exit)) r) × (r ≤ at + 95) ⌝ }
+{
+    let a = put_byte(buf, at, b'H');
+    let b = put_number(buf, a, flag_number(line.flag));
+    let c = put_double(buf, b, line.adjusted);
+    let d = put_double(buf, c, line.supplied);
+    let e = put_double(buf, d, line.losses);
+    let f = put_number(buf, e, line.rounds);
+    put_byte(buf, f, b'\n')
+}
+
+// The lines of the first n heaters of an order.
+fn put_heater_lines(
+    buf: &mut [u8],
+    at: usize,
+    n: usize,
+    order: [usize; MAX_HEATERS],
+    lines: [HeaterLine; MAX_HEATERS],
+) -> usize
+    requires { ⌜ (n ≤ maxHeaters) × (at ≤ 1000) × ((k : ℕ) → k < n → getD order k 0 < maxHeaters) ⌝ }
+    ensures { λ r. ⌜ (Put (now (buf .entry)) at (heaterLines n order lines) (now (buf .exit)) r) × (r ≤ at + 95 * n) ⌝ }
+{
+    let mut a = at;
+    let mut k = 0;
+    while k < n {
+        let h = order[k];
+        let line = lines[h];
+        a = put_heater_line(buf, a, line);
+        k += 1;
+    }
+    a
+}
+
+// E, a number and the record's start.
+pub fn refusal_line(buf: &mut [u8], number: u8, offset: usize) -> usize
+    ensures { λ r. ⌜ (r ≡ length (refusalLine number offset)) × (now (buf .exit) ≡ written (now (buf .entry)) (refusalLine number offset)) ⌝ }
+{
+    let a = put_byte(buf, 0, b'E');
+    let b = put_number(buf, a, number as usize);
+    let c = put_number(buf, b, offset);
+    put_byte(buf, c, b'\n')
+}
+
+// A refused step's lines: its head, and the layers as they were.
+fn refused_lines(
+    buf: &mut [u8],
+    index: usize,
+    number: u8,
+    layers: usize,
+    temps: &[f64; MAX_LAYERS],
+) -> usize
+    ensures { λ r. ⌜ (r ≡ length (refusedLines index number layers (now (temps .entry)))) × (now (buf .exit) ≡ written (now (buf .entry)) (refusedLines index number layers (now (temps .entry)))) ⌝ }
+{
+    let n = at_most(layers, MAX_LAYERS);
+    let a = put_head(buf, index, number);
+    let b = put_byte(buf, a, b'\n');
+    put_layers_line(buf, b, n, temps)
+}
+
+// An accepted step's lines: its head with the totals, the layers, and the heaters in an order.
+fn accepted_lines(
+    buf: &mut [u8],
+    index: usize,
+    report: Report,
+    layers: usize,
+    temps: &[f64; MAX_LAYERS],
+    heaters: usize,
+    order: [usize; MAX_HEATERS],
+) -> usize
+    requires { ⌜ (heaters ≤ maxHeaters) × ((k : ℕ) → k < heaters → getD order k 0 < maxHeaters) ⌝ }
+    ensures { λ r. ⌜ (r ≡ length (acceptedLines index report layers (now (temps .entry)) heaters order)) × (now (buf .exit) ≡ written (now (buf .entry)) (acceptedLines index report layers (now (temps .entry)) heaters order)) ⌝ }
+{
+    let n = at_most(layers, MAX_LAYERS);
+    let a = put_head(buf, index, 0);
+    let b = put_totals(buf, a, report);
+    let c = put_layers_line(buf, b, n, temps);
+    let lines = report.lines;
+    put_heater_lines(buf, c, heaters, order, lines)
+}
+
+// A step's lines, by its number. Its heaters are printed in working order.
+pub fn step_lines(buf: &mut [u8], index: usize, s: Stepped) -> usize
+    ensures { λ r. ⌜ (r ≡ length (stepLines index s)) × (now (buf .exit) ≡ written (now (buf .entry)) (stepLines index s)) ⌝ }
+{
+    let t = s.tank;
+    let temps = t.temps;
+    if s.number != 0 {
+        return refused_lines(buf, index, s.number, t.layers, &temps);
+    }
+    let report = s.report;
+    let fitted = t.fitted;
+    let n = at_most(t.heaters, MAX_HEATERS);
+    let positions = storage_tank::turns::positions_of(fitted);
+    let order = working_order::working_order(n, &positions);
+    accepted_lines(buf, index, report, t.layers, &temps, n, order)
+}

@@ -1,0 +1,4 @@
+-- The laws of `job_reader`, and the lemmas that its proofs share.
+pub mod Patterns
+pub mod Filling
+pub mod ReadLaws

@@ -1,0 +1,41 @@
+-- `record::add_heater` meets its contract (01, Job): a ninth heater is 2, any other is make's to judge.
+use borrow.Author.Tests.{lt-ltb, le-ltb}
+use Rattle.job_run.specs.Job.{heaterTurn}
+use borrow.Author.Needs.{needs}
+use Rattle.job_run.proofs.record.add_heater.Statement.{statement}
+use Rattle.job_run.proofs.record.add_heater.Tie as tie
+
+refuse-requires : tie.Need-refuse-requires
+refuse-requires c κs = search needs
+
+same-length : tie.Need-same-length
+same-length c = search needs
+
+returns : tie.Need-returns
+unfolding heaterTurn
+returns c = rw (le-ltb _ _ (c .before .before .before .before .if1 .taken)) (c .before .before .refuse .ensures)
+
+with-heater-requires : tie.Need-with-heater-requires
+with-heater-requires c κs = search needs
+
+make-tank-requires : tie.Need-make-tank-requires
+make-tank-requires c κs = search needs
+
+same-length-2 : tie.Need-same-length-2
+same-length-2 c = search needs
+
+returns-2 : tie.Need-returns-2
+unfolding heaterTurn
+returns-2 c = rw (lt-ltb _ _ (c .before .before .before .before .before .if1 .left), ← c .before .before .before .before .with-heater .ensures) (c .before .before .make-tank .ensures)
+
+pub add-heater-spec : {M : Type 1} → statement M
+add-heater-spec =
+    tie.close
+    (tie.spec
+    refuse-requires
+    same-length
+    returns
+    with-heater-requires
+    make-tank-requires
+    same-length-2
+    returns-2)

@@ -1,0 +1,28 @@
+-- `record::make_tank` meets its contract (01, Job): by make's number.
+use mathlib.Core.Path.{refl, sym}
+use borrow.Author.Tests.{eq-eqb, ne-eqb}
+use Rattle.job_lines.specs.Put.{written-nothing}
+use Rattle.job_run.specs.Job.{madeTurn}
+use borrow.Author.Needs.{needs}
+use Rattle.job_run.proofs.record.make_tank.Statement.{statement}
+use Rattle.job_run.proofs.record.make_tank.Tie as tie
+
+new-requires : tie.Need-new-requires
+new-requires c κs = search needs
+
+refuse-requires : tie.Need-refuse-requires
+refuse-requires c κs = search needs
+
+same-length : tie.Need-same-length
+same-length c = search needs
+
+returns : tie.Need-returns
+unfolding madeTurn
+returns c = rw (← c .before .before .before .before .before .before .new .ensures, ne-eqb _ _ (c .before .before .before .before .if1 .taken)) (c .before .before .refuse .ensures)
+
+returns-2 : tie.Need-returns-2
+unfolding madeTurn
+returns-2 c = rw (← c .before .before .before .new .ensures, eq-eqb _ _ (c .before .if1 .left)) (record { goes = refl; counts = refl; prints = sym (written-nothing _) })
+
+pub make-tank-spec : {M : Type 1} → statement M
+make-tank-spec = tie.close (tie.spec new-requires refuse-requires same-length returns returns-2)

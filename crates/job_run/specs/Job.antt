@@ -1,0 +1,144 @@
+-- States a whole job (01, Job): records read one after the other, the tank made, its heaters added, its steps run, and the lines that each record prints.
+use Prim.Native.Nat.{ℕ, zero, suc, _+_}
+use mathlib.Core.Bool.{Bool, true, false, cond, not, _&&_}
+use mathlib.Core.Path.{_≡_}
+use mathlib.Core.List.{List, [], _++_}
+use lib.Dec.{ltb, eqb}
+use lib.ListN.{length, set, replicate}
+use lib.Ieee.{Float}
+use Rattle.numeric.specs.Double.{zero-f}
+use Rattle.working_order.specs.Order.{maxHeaters}
+use Rattle.storage_tank.specs.declared.Heater.{Heater}
+use Rattle.storage_tank.specs.declared.TankDesign.{TankDesign}
+use Rattle.storage_tank.specs.declared.StorageTank.{StorageTank}
+use Rattle.storage_tank.specs.declared.Setting.{Setting}
+use Rattle.storage_tank.specs.declared.Step.{Step}
+use Rattle.storage_tank.specs.declared.Report.{Report}
+use Rattle.storage_tank.specs.Work.{zeroLine}
+use Rattle.storage_tank.specs.Calls.{zeroHeater, zeroTank, made, stepped}
+use Rattle.job_reader.specs.declared.TankRecord.{TankRecord}
+use Rattle.job_reader.specs.declared.StepRecord.{StepRecord}
+use Rattle.job_reader.specs.declared.Record.{Record}
+use Rattle.job_reader.specs.declared.Record.the-variants.{Tank, Heater as HeaterCase, Step as StepCase, Refused}
+use Rattle.job_reader.specs.declared.Reading.{Reading}
+use Rattle.job_reader.specs.Records.{readRecord}
+use Rattle.job_reader.specs.Values.{zeroTankRecord}
+use Rattle.job_lines.specs.Put.{written}
+use Rattle.job_lines.specs.Lines.{refusalLine, stepLines}
+use Rattle.job_run.specs.declared.Job.{Job}
+use Rattle.job_run.specs.declared.Printed.{Printed}
+
+-- ---- what records hold
+
+abbrev pub designOf : TankRecord → TankDesign
+designOf t = record {
+  layers = t .layers;
+  volume = t .volume;
+  standby = t .standby;
+  initial = t .initial;
+  rho = t .rho;
+  cp = t .cp;
+  ambient = t .ambient;
+  timestep = t .timestep;
+  heaters = 0;
+  fitted = replicate maxHeaters zeroHeater;
+}
+
+-- one heater more, in file order
+abbrev pub withHeater : TankDesign → Heater → TankDesign
+withHeater d h = record {
+  layers = d .layers;
+  volume = d .volume;
+  standby = d .standby;
+  initial = d .initial;
+  rho = d .rho;
+  cp = d .cp;
+  ambient = d .ambient;
+  timestep = d .timestep;
+  heaters = d .heaters + 1;
+  fitted = set (d .fitted) (d .heaters) h;
+}
+
+abbrev pub stepOf : StepRecord → List Float → List Setting → Step
+stepOf p volumes settings = record { feed = p .feed; events = p .events; volumes = volumes; entries = p .entries; settings = settings }
+
+-- ---- before the first record
+
+abbrev pub noReport : Report
+noReport = record { energy = zero-f; used = zero-f; average = zero-f; recoverable = zero-f; lines = replicate maxHeaters zeroLine }
+
+abbrev pub noDesign : TankDesign
+noDesign = designOf zeroTankRecord
+
+abbrev pub startJob : Job
+startJob = record { at = 0; ended = false; «has_tank» = false; steps = 0; design = noDesign; tank = zeroTank; report = noReport }
+
+-- ---- one record
+
+-- the job after a record, and what the record prints
+pub record Turn : Type 0 where
+  pub job : Job
+  pub text : List ℕ
+
+-- a function's answer and its lent buffer are a turn's job and text
+pub record Turned (t : Turn) (before after : List ℕ) (r : Printed) : Type 0 where
+  pub goes : r .job ≡ t .job
+  pub counts : r .length ≡ length (t .text)
+  pub prints : after ≡ written before (t .text)
+
+abbrev pub endedJob : Job → Job
+endedJob j = record { at = j .at; ended = true; «has_tank» = j .«has_tank»; steps = j .steps; design = j .design; tank = j .tank; report = j .report }
+
+-- a refusal outside a step prints its number and the record's start, and ends the program
+unfoldable pub refusedTurn : Job → ℕ → Turn
+refusedTurn j number = record { job = endedJob j; text = refusalLine number (j .at) }
+
+abbrev pub withTank : Job → ℕ → TankDesign → StorageTank → Job
+withTank j next d t = record { at = next; ended = j .ended; «has_tank» = true; steps = j .steps; design = d; tank = t; report = j .report }
+
+-- the tank made, or the number of make's refusal
+unfoldable pub madeTurn : Job → ℕ → TankDesign → Turn
+madeTurn j next d =
+    let m = made d in
+    cond (eqb (m .number) 0) (record { job = withTank j next d (m .tank); text = [] }) (refusedTurn j (m .number))
+
+-- 2 and 5 come at the heater's record
+unfoldable pub heaterTurn : Job → ℕ → Heater → Turn
+heaterTurn j next h = cond (ltb (j .design .heaters) maxHeaters) (madeTurn j next (withHeater (j .design) h)) (refusedTurn j 2)
+
+abbrev pub afterStep : Job → ℕ → StorageTank → Report → Job
+afterStep j next t r = record { at = next; ended = j .ended; «has_tank» = j .«has_tank»; steps = j .steps + 1; design = j .design; tank = t; report = r }
+
+-- a step's lines; refused or not, the job goes on and the index counts it
+unfoldable pub stepTurn : Job → ℕ → Step → Turn
+stepTurn j next a =
+    let s = stepped (j .tank) (j .report) a in
+    record { job = afterStep j next (s .tank) (s .report); text = stepLines (j .steps) s }
+
+-- the input's end ends the program; empty input, and any other refused record, is 11
+unfoldable pub endTurn : ℕ → Job → Turn
+endTurn size j = cond (eqb (j .at) size && not (eqb (j .at) 0)) (record { job = endedJob j; text = [] }) (refusedTurn j 11)
+
+unfoldable pub turnOf : List ℕ → Job → Reading → Record → Turn
+turnOf bytes j r (Tank t) = madeTurn j (r .next) (designOf t)
+turnOf bytes j r (HeaterCase h) = heaterTurn j (r .next) h
+turnOf bytes j r (StepCase p) = stepTurn j (r .next) (stepOf p (r .volumes) (r .settings))
+turnOf bytes j r Refused = endTurn (length bytes) j
+
+abbrev pub readingOf : List ℕ → Job → Reading
+readingOf bytes j = readRecord bytes (j .at) (j .«has_tank») (j .design .heaters) (not (eqb (j .steps) 0))
+
+unfoldable pub turn : List ℕ → Job → Turn
+turn bytes j = turnOf bytes j (readingOf bytes j) (readingOf bytes j .content)
+
+-- ---- the whole job
+
+-- what the records from here on print, for so many of them at most
+unfoldable pub jobFrom : ℕ → Bool → List ℕ → Job → List ℕ
+jobFrom zero ended bytes j = []
+jobFrom (suc k) true bytes j = []
+jobFrom (suc k) false bytes j = let t = turn bytes j in t .text ++ jobFrom k (t .job .ended) bytes (t .job)
+
+-- all that a job prints: each record but the last moves the position, so there are no more turns than bytes, and one
+unfoldable pub jobText : List ℕ → List ℕ
+jobText bytes = jobFrom (length bytes + 1) false bytes startJob

@@ -1,0 +1,25 @@
+// A job, one record after the other: what a record does to the tank, and the lines that it prints.
+pub mod record;
+pub mod start;
+
+use storage_tank::Report;
+use storage_tank::StorageTank;
+use storage_tank::TankDesign;
+
+// Where a job stands: the next record's start, whether the job has ended, whether a tank came, how many steps came, the tank's record and heaters as given,
+// the tank, and the report of its last accepted step.
+pub struct Job {
+    pub at: usize,
+    pub ended: bool,
+    pub has_tank: bool,
+    pub steps: usize,
+    pub design: TankDesign,
+    pub tank: StorageTank,
+    pub report: Report,
+}
+
+// A job after a record, and the length of the lines that the record printed.
+pub struct Printed {
+    pub job: Job,
+    pub length: usize,
+}

@@ -1,0 +1,114 @@
+// One record of a job: the tank made, a heater added, a step run, or the end.
+ghost use mathlib.Core.Path.{_≡_};
+ghost use Prim.Native.Nat.{_<_};
+ghost use Rattle.job_run.specs.Job.{Turned, refusedTurn, madeTurn, heaterTurn, stepTurn, endTurn, turn, endedJob};
+
+use crate::Job;
+use crate::Printed;
+use job_reader::Record;
+use storage_tank::Heater;
+use storage_tank::Step;
+use storage_tank::StorageTank;
+use storage_tank::TankDesign;
+use working_order::MAX_HEATERS;
+
+// The job ends, and nothing is printed.
+fn end_job(j: Job) -> Job
+    ensures { λ r. ⌜ r ≡ endedJob j ⌝ }
+{
+    let mut r = j;
+    r.ended = true;
+    r
+}
+
+// E, and the job ends.
+fn refuse(buf: &mut [u8], j: Job, number: u8) -> Printed
+    ensures { λ r. ⌜ Turned (refusedTurn j number) (now (buf .entry)) (now (buf .exit)) r ⌝ }
+{
+    let length = job_lines::lines::refusal_line(buf, number, j.at);
+    let job = end_job(j);
+    Printed { job, length }
+}
+
+// A tank with these heaters, or the refusal of making it.
+fn make_tank(buf: &mut [u8], j: Job, next: usize, design: TankDesign) -> Printed
+    ensures { λ r. ⌜ Turned (madeTurn j next design) (now (buf .entry)) (now (buf .exit)) r ⌝ }
+{
+    let m = StorageTank::new(design);
+    if m.number != 0 {
+        return refuse(buf, j, m.number);
+    }
+    let tank = m.tank;
+    let mut job = j;
+    job.at = next;
+    job.has_tank = true;
+    job.design = design;
+    job.tank = tank;
+    Printed { job, length: 0 }
+}
+
+// A heater more; a ninth is 2.
+fn add_heater(buf: &mut [u8], j: Job, next: usize, h: Heater) -> Printed
+    ensures { λ r. ⌜ Turned (heaterTurn j next h) (now (buf .entry)) (now (buf .exit)) r ⌝ }
+{
+    let d = j.design;
+    if d.heaters >= MAX_HEATERS {
+        return refuse(buf, j, 2);
+    }
+    let design = crate::start::with_heater(d, h);
+    make_tank(buf, j, next, design)
+}
+
+// A step, refused or not: its lines, and the job goes on.
+fn run_step(buf: &mut [u8], j: Job, next: usize, a: Step) -> Printed
+    requires { ⌜ j .steps < 65536 ⌝ }
+    ensures { λ r. ⌜ Turned (stepTurn j next a) (now (buf .entry)) (now (buf .exit)) r ⌝ }
+{
+    let before = j.tank;
+    let last = j.report;
+    let s = before.demand_hot_water(last, a);
+    let length = job_lines::lines::step_lines(buf, j.steps, s);
+    let tank = s.tank;
+    let report = s.report;
+    let mut job = j;
+    job.at = next;
+    job.steps = j.steps + 1;
+    job.tank = tank;
+    job.report = report;
+    Printed { job, length }
+}
+
+// No record: the input's end, or a refusal.
+fn end_or_refuse(buf: &mut [u8], size: usize, j: Job) -> Printed
+    ensures { λ r. ⌜ Turned (endTurn size j) (now (buf .entry)) (now (buf .exit)) r ⌝ }
+{
+    if j.at != size {
+        return refuse(buf, j, 11);
+    }
+    if j.at == 0 {
+        return refuse(buf, j, 11);
+    }
+    let job = end_job(j);
+    Printed { job, length: 0 }
+}
+
+// The next record of a job: its lines into the lent buffer, and the job after it.
+pub fn next_record(buf: &mut [u8], bytes: &[u8], j: Job) -> Printed
+    requires { ⌜ j .steps < 65536 ⌝ }
+    ensures { λ r. ⌜ Turned (turn (now (bytes .entry)) j) (now (buf .entry)) (now (buf .exit)) r ⌝ }
+{
+    let d = j.design;
+    let r = job_reader::read::read_record(bytes, j.at, j.has_tank, d.heaters, j.steps != 0);
+    let next = r.next;
+    let content = r.content;
+    match content {
+        Record::Tank(t) => make_tank(buf, j, next, crate::start::design_of(t)),
+        Record::Heater(h) => add_heater(buf, j, next, h),
+        Record::Step(p) => {
+            let volumes = r.volumes;
+            let settings = r.settings;
+            run_step(buf, j, next, crate::start::step_of(p, volumes, settings))
+        }
+        Record::Refused => end_or_refuse(buf, bytes.len(), j),
+    }
+}
