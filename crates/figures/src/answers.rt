@@ -1,7 +1,6 @@
 // Makes and steps tanks, and prints each answer with all its numbers: the four totals, the layers, and each heater's line, as given.
 use crate::print;
 use storage_tank::HeaterLine;
-use storage_tank::Made;
 use storage_tank::Report;
 use storage_tank::Step;
 use storage_tank::Stepped;

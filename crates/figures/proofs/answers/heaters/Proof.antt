@@ -1,53 +1,42 @@
+-- `answers::heaters` is safe and ends (01, Figures to hold it against). The loop's invariant: h is at most n.
+use Prim.Native.Nat.{_≤_, _-_}
 use borrow.Author.Needs.{needs}
 use Rattle.figures.proofs.answers.heaters.Statement.{statement}
 use Rattle.figures.proofs.answers.heaters.Tie as tie
-use Rattle.figures.proofs.answers.heaters.Reads as reads
-use Rattle.figures.proofs.answers.heaters.Lts as lts
-use Rattle.figures.proofs.answers.heater.Reads as heater-reads
 
 abbrev Inv-loop : tie.InvT-loop
-Inv-loop n flags lines h₀ h = ?
+Inv-loop n flags lines h₀ h = h ≤ n
 
 abbrev μ-loop : tie.MeasureT-loop
-μ-loop n flags lines h₀ h = ?
+μ-loop n flags lines h₀ h = n - h
 
--- src/answers.rt:39:9
 returns : tie.Need-returns Inv-loop μ-loop
 returns c = search needs
 
--- src/answers.rt:42:5
 loop-holds : tie.Need-loop-holds Inv-loop μ-loop
 loop-holds c = search needs
 
--- src/answers.rt:43:17
 mul-x : tie.Need-mul-x Inv-loop μ-loop
 mul-x c = search needs
 
--- src/answers.rt:43:17
 array-copy-out-x : tie.Need-array-copy-out-x Inv-loop μ-loop
 array-copy-out-x c = search needs
 
--- src/answers.rt:44:16
 array-read-heater : tie.Need-array-read-heater Inv-loop μ-loop
 array-read-heater c = search needs
 
--- src/answers.rt:44:9
 heater-requires : tie.Need-heater-requires Inv-loop μ-loop
 heater-requires c κs = search needs
 
--- src/answers.rt:45:9
 add-h : tie.Need-add-h Inv-loop μ-loop
 add-h c = search needs
 
--- src/answers.rt:42:5
 loop-less : tie.Need-loop-less Inv-loop μ-loop
 loop-less c = search needs
 
--- src/answers.rt:42:5
 loop-again : tie.Need-loop-again Inv-loop μ-loop
 loop-again c = search needs
 
--- src/answers.rt:37:1
 returns-2 : tie.Need-returns-2 Inv-loop μ-loop
 returns-2 c = search needs
 
