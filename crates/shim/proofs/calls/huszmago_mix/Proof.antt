@@ -1,31 +1,27 @@
+-- `calls::huszmago_mix` meets its contract (01, The four calls): the answer of mix, taken apart.
+use mathlib.Core.Path.{_≡_, ap, _∙_}
+use mathlib.Core.List.{[], _∷_}
+use Rattle.mixing.specs.Mix.{numberOf, roundsOf}
 use borrow.Author.Needs.{needs}
 use Rattle.shim.proofs.calls.huszmago_mix.Statement.{statement}
 use Rattle.shim.proofs.calls.huszmago_mix.Tie as tie
-use Rattle.shim.proofs.calls.huszmago_mix.Reads as reads
-use Rattle.shim.proofs.calls.huszmago_mix.Lts as lts
-use Rattle.mixing.proofs.mix.mix.Reads as mix-reads
-use Rattle.shim.proofs.calls.number_of.Reads as number-of-reads
-use Rattle.shim.proofs.calls.rounds_of.Reads as rounds-of-reads
 
--- src/calls.rt:49:9
 mix-requires : tie.Need-mix-requires
 mix-requires c κs = search needs
 
--- src/calls.rt:50:9
 rounds-of-requires : tie.Need-rounds-of-requires
 rounds-of-requires c κs = search needs
 
--- src/calls.rt:52:5
 number-of-requires : tie.Need-number-of-requires
 number-of-requires c κs = search needs
 
--- src/calls.rt:45:1
 same-length : tie.Need-same-length
 same-length c = search needs
 
--- src/calls.rt:45:1
 returns : tie.Need-returns
-returns c = search needs
+returns c =
+    let m = c .before .before .before .before .before .mix .ensures in
+    (c .number-of .ensures ∙ ap numberOf (m .0), m .1, ap (λ n. n ∷ []) (c .before .before .rounds-of .ensures ∙ ap roundsOf (m .0)))
 
 pub huszmago-mix-spec : {M : Type 1} → statement M
 huszmago-mix-spec =
