@@ -1,8 +1,20 @@
-// Runs the figures of 01 through the calls and prints what they give, a line for each.
+// Runs the figures of 01, and cases at their edges, through make, step and mix, and prints what the calls answer.
+mod answers;
+mod draws;
+mod heaters;
 mod mixes;
 mod print;
+mod refusals;
+mod tanks;
 
 fn main() {
     mixes::figures();
     mixes::edges();
+    draws::figures();
+    draws::edges();
+    heaters::figures();
+    heaters::edges();
+    refusals::make();
+    refusals::step();
+    refusals::between();
 }

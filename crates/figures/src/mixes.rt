@@ -30,6 +30,7 @@ fn two(bottom: f64, top: f64, layer_volume: f64) {
 
 // 01's table and traps, with a layer volume of 16.
 pub fn figures() {
+    print::word(b"# Mix, with a layer volume of 16\n");
     two(50.0, 40.0, 16.0);
     two(20.0, 30.0, 16.0);
     let mut three = [30.0, 40.0, 5.0];
@@ -62,6 +63,7 @@ fn first(n: usize, layer_volume: f64)
 
 // Layer volumes that refusal 3 stops, and the smallest that it lets pass; then no layers, one, 32 and 33.
 pub fn edges() {
+    print::word(b"# Mix: layer volumes, and 0, 1, 32 and 33 layers\n");
     two(50.0, 40.0, 0.0);
     two(50.0, 40.0, -0.0);
     two(50.0, 40.0, -1.0);

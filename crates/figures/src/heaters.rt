@@ -1,0 +1,63 @@
+// The figures of heaters.
+use crate::answers;
+use crate::print;
+use crate::tanks;
+use heating::SetPoints;
+use storage_tank::Heater;
+use storage_tank::Step;
+use storage_tank::TankDesign;
+
+// Two layers at 40, and a heater of 160 kW at position 0.
+fn from_40() -> TankDesign {
+    tanks::with_heaters(2, 32.0, 40.0, 1, tanks::heater(160.0, 0.0))
+}
+
+fn four_steps(m: TankDesign, a: Step) {
+    let first = answers::first_step(m, a);
+    let second = answers::step(first.tank, first.report, a);
+    let third = answers::step(second.tank, second.report, a);
+    answers::step(third.tank, third.report, a);
+}
+
+// Two layers at 36 that lose heat, and two heaters.
+fn losing(first: Heater, second: Heater) -> TankDesign {
+    let mut m = tanks::with_heaters(2, 32.0, 36.0, 2, first);
+    m.standby = 27.0;
+    m.timestep = 0.125;
+    m.fitted[1] = second;
+    m
+}
+
+pub fn figures() {
+    print::word(b"# Two layers at 40, 160 kW at position 0, set points 50 and 60, four steps\n");
+    four_steps(from_40(), tanks::heats(1, SetPoints::Both(50.0, 60.0)));
+    print::word(b"# Set points 41 and 42\n");
+    answers::first_step(from_40(), tanks::heats(1, SetPoints::Both(41.0, 42.0)));
+    print::word(b"# Two layers at 36, standby 27, step 0.125, two heaters unset\n");
+    let low = tanks::heater(3.0, 0.0);
+    answers::first_step(losing(low, low), tanks::heats(2, SetPoints::Neither));
+    print::word(b"# Position 0.5 of 4: layer 2 is heated\n");
+    answers::first_step(
+        tanks::with_heaters(4, 64.0, 40.0, 1, tanks::heater(160.0, 0.5)),
+        tanks::heats(1, SetPoints::Both(50.0, 60.0)),
+    );
+    print::word(b"# Position 1\n");
+    answers::make(tanks::with_heaters(4, 64.0, 40.0, 1, tanks::heater(160.0, 1.0)));
+    print::word(b"# Lower equal to upper\n");
+    answers::first_step(from_40(), tanks::heats(1, SetPoints::Both(50.0, 50.0)));
+}
+
+pub fn edges() {
+    print::word(b"# Two heaters unset, the upper one given first: the lower one is worked first\n");
+    answers::first_step(
+        losing(tanks::heater(3.0, 0.5), tanks::heater(3.0, 0.0)),
+        tanks::heats(2, SetPoints::Neither),
+    );
+    print::word(b"# Eight heaters of 10 kW\n");
+    answers::first_step(
+        tanks::with_heaters(2, 32.0, 40.0, 8, tanks::heater(10.0, 0.0)),
+        tanks::heats(8, SetPoints::Both(50.0, 60.0)),
+    );
+    print::word(b"# The upper set point alone: a flag that is off stays off\n");
+    answers::first_step(from_40(), tanks::heats(1, SetPoints::Upper(60.0)));
+}

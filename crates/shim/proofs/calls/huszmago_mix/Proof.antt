@@ -1,0 +1,28 @@
+-- `calls::huszmago_mix` meets its contract (01, The four calls): the answer of mix, taken apart.
+use mathlib.Core.Path.{_≡_, ap, _∙_}
+use mathlib.Core.List.{[], _∷_}
+use Rattle.mixing.specs.Mix.{numberOf, roundsOf}
+use borrow.Author.Needs.{needs}
+use Rattle.shim.proofs.calls.huszmago_mix.Statement.{statement}
+use Rattle.shim.proofs.calls.huszmago_mix.Tie as tie
+
+mix-requires : tie.Need-mix-requires
+mix-requires c κs = search needs
+
+rounds-of-requires : tie.Need-rounds-of-requires
+rounds-of-requires c κs = search needs
+
+number-of-requires : tie.Need-number-of-requires
+number-of-requires c κs = search needs
+
+same-length : tie.Need-same-length
+same-length c = search needs
+
+returns : tie.Need-returns
+returns c =
+    let m = c .before .before .before .before .before .mix .ensures in
+    (c .number-of .ensures ∙ ap numberOf (m .0), m .1, ap (λ n. n ∷ []) (c .before .before .rounds-of .ensures ∙ ap roundsOf (m .0)))
+
+pub huszmago-mix-spec : {M : Type 1} → statement M
+huszmago-mix-spec =
+    tie.close (tie.spec mix-requires rounds-of-requires number-of-requires same-length returns)

@@ -1,0 +1,4 @@
+pub mod Tanks
+pub mod Reports
+pub mod Steps
+pub mod Answers

@@ -1,0 +1,57 @@
+-- States how a report stands in lent arrays, both ways (01, The four calls: what a step takes and answers).
+use Prim.Native.Nat.{ℕ, _+_}
+use mathlib.Core.Path.{_≡_}
+use mathlib.Core.Bool.{Bool, false}
+use mathlib.Core.List.{List, [], _∷_, _++_}
+use lib.ListN.{getD}
+use lib.Ieee.{Float, nan}
+use Rattle.numeric.specs.Tabulate.{tabulate}
+use Rattle.working_order.specs.Order.{maxHeaters}
+use Rattle.storage_tank.specs.declared.HeaterLine.{HeaterLine}
+use Rattle.storage_tank.specs.declared.Report.{Report}
+
+-- what stands past the end of a list of lines
+abbrev noLine : HeaterLine
+noLine = record { flag = false; adjusted = nan; supplied = nan; losses = nan; rounds = 0 }
+
+-- ---- from arrays: adjusted inputs, then energies supplied, then losses
+
+abbrev pub lineIn : List Float → List Bool → List ℕ → ℕ → HeaterLine
+lineIn xs flags rounds h = record { flag = getD flags h false; adjusted = getD xs h nan; supplied = getD xs (8 + h) nan; losses = getD xs (16 + h) nan; rounds = getD rounds h 0 }
+
+unfoldable pub linesIn : List Float → List Bool → List ℕ → List HeaterLine
+linesIn xs flags rounds = tabulate (lineIn xs flags rounds) maxHeaters 0
+
+-- totals: energy withdrawn, volume used, average draw-off temperature, recoverable losses
+unfoldable pub reportIn : List Float → List Float → List Bool → List ℕ → Report
+reportIn totals figures flags rounds = record {
+  energy = getD totals 0 nan;
+  used = getD totals 1 nan;
+  average = getD totals 2 nan;
+  recoverable = getD totals 3 nan;
+  lines = linesIn figures flags rounds;
+}
+
+-- ---- to arrays
+
+abbrev pub totalsOf : Report → List Float
+totalsOf r = r .energy ∷ r .used ∷ r .average ∷ r .recoverable ∷ []
+
+unfoldable pub figuresOf : List HeaterLine → List Float
+figuresOf xs =
+    tabulate (λ (h : ℕ). getD xs h noLine .adjusted) maxHeaters 0
+    ++ (tabulate (λ (h : ℕ). getD xs h noLine .supplied) maxHeaters 0
+    ++ tabulate (λ (h : ℕ). getD xs h noLine .losses) maxHeaters 0)
+
+unfoldable pub lineFlagsOf : List HeaterLine → List Bool
+lineFlagsOf xs = tabulate (λ (h : ℕ). getD xs h noLine .flag) maxHeaters 0
+
+unfoldable pub roundsOf : List HeaterLine → List ℕ
+roundsOf xs = tabulate (λ (h : ℕ). getD xs h noLine .rounds) maxHeaters 0
+
+-- the arrays hold the report
+pub record ReportWritten (r : Report) (totals figures : List Float) (flags : List Bool) (rounds : List ℕ) : Type 0 where
+  pub totals-held : totals ≡ totalsOf r
+  pub figures-held : figures ≡ figuresOf (r .lines)
+  pub flags-held : flags ≡ lineFlagsOf (r .lines)
+  pub rounds-held : rounds ≡ roundsOf (r .lines)

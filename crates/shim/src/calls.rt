@@ -1,0 +1,167 @@
+// The exported calls. Each answers the number of 01's refusal, 0 where it is accepted. A refused step and a refused mix leave what was lent as it was.
+ghost use mathlib.Core.Path.{_≡_};
+ghost use mathlib.Core.List.{[], _∷_};
+ghost use Rattle.mixing.specs.Mix.{mixAnswer, mixLayers, numberOf};
+ghost use Rattle.mixing.specs.Mix as Mix;
+ghost use Rattle.storage_tank.specs.Calls.{made, stepped};
+ghost use Rattle.shim.specs.Tanks.{designIn, tankIn, TankWritten};
+ghost use Rattle.shim.specs.Reports.{reportIn, ReportWritten};
+ghost use Rattle.shim.specs.Steps.{stepIn};
+ghost use Rattle.shim.specs.Answers.{MakeAnswered, StepAnswered};
+use draw_off::event::MAX_EVENTS;
+use mixing::MixAnswer;
+use mixing::limits::MAX_LAYERS;
+use storage_tank::Report;
+use storage_tank::StorageTank;
+use working_order::MAX_HEATERS;
+
+fn number_of(a: MixAnswer) -> u8
+    ensures { λ r. ⌜ r ≡ numberOf a ⌝ }
+{
+    match a {
+        MixAnswer::Mixed(_) => {
+            return 0;
+        }
+        MixAnswer::Refused(number) => {
+            return number;
+        }
+    }
+}
+
+fn rounds_of(a: MixAnswer) -> usize
+    ensures { λ r. ⌜ r ≡ Mix.roundsOf a ⌝ }
+{
+    match a {
+        MixAnswer::Mixed(rounds) => {
+            return rounds;
+        }
+        MixAnswer::Refused(_) => {
+            return 0;
+        }
+    }
+}
+
+// Mixes layers of one volume. `rounds` is how many were run, 0 where refused.
+#[no_mangle]
+pub extern "C" fn huszmago_mix(layers: &mut [f64], layer_volume: f64, rounds: &mut [usize; 1]) -> u8
+    ensures { λ r. ⌜ (r ≡ numberOf (mixAnswer (now (layers .entry)) «layer_volume»)) × (now (layers .exit) ≡ mixLayers (now (layers .entry)) «layer_volume») × (now (rounds .exit) ≡ Mix.roundsOf (mixAnswer (now (layers .entry)) «layer_volume») ∷ []) ⌝ }
+{
+    let a = mixing::mix::mix(layers, layer_volume);
+    let n = rounds_of(a);
+    *rounds = [n];
+    number_of(a)
+}
+
+fn put_tank(
+    t: StorageTank,
+    counts: &mut [usize; 2],
+    numbers: &mut [f64; 6],
+    temps: &mut [f64; MAX_LAYERS],
+    heaters: &mut [f64; 24],
+    thermostats: &mut [bool; MAX_HEATERS],
+    flags: &mut [bool; MAX_HEATERS],
+)
+    ensures { λ r. ⌜ TankWritten t (now (counts .exit)) (now (numbers .exit)) (now (temps .exit)) (now (heaters .exit)) (now (thermostats .exit)) (now (flags .exit)) ⌝ }
+{
+    let c = crate::tanks::counts_of(t);
+    *counts = c;
+    let n = crate::tanks::numbers_of(t);
+    *numbers = n;
+    let layers = t.temps;
+    *temps = layers;
+    let fitted = t.fitted;
+    let h = crate::tanks::heaters_of(fitted);
+    *heaters = h;
+    let b = crate::tanks::thermostats_of(fitted);
+    *thermostats = b;
+    let f = t.flags;
+    *flags = f;
+}
+
+fn put_report(
+    r: Report,
+    totals: &mut [f64; 4],
+    figures: &mut [f64; 24],
+    flags: &mut [bool; MAX_HEATERS],
+    rounds: &mut [usize; MAX_HEATERS],
+)
+    ensures { λ u. ⌜ ReportWritten r (now (totals .exit)) (now (figures .exit)) (now (flags .exit)) (now (rounds .exit)) ⌝ }
+{
+    let t = crate::reports::totals_of(r);
+    *totals = t;
+    let lines = r.lines;
+    let x = crate::reports::figures_of(lines);
+    *figures = x;
+    let f = crate::reports::line_flags_of(lines);
+    *flags = f;
+    let n = crate::reports::rounds_of(lines);
+    *rounds = n;
+}
+
+// Makes a tank from the counts, numbers and heaters lent, and writes it in all its arrays: where refused, a tank of no layers, no heaters and zeros.
+#[no_mangle]
+pub extern "C" fn huszmago_make(
+    initial: f64,
+    counts: &mut [usize; 2],
+    numbers: &mut [f64; 6],
+    temps: &mut [f64; MAX_LAYERS],
+    heaters: &mut [f64; 24],
+    thermostats: &mut [bool; MAX_HEATERS],
+    flags: &mut [bool; MAX_HEATERS],
+) -> u8
+    ensures { λ r. ⌜ MakeAnswered (made (designIn (now (counts .entry)) (now (numbers .entry)) initial (now (heaters .entry)) (now (thermostats .entry)))) r (now (counts .exit)) (now (numbers .exit)) (now (temps .exit)) (now (heaters .exit)) (now (thermostats .exit)) (now (flags .exit)) ⌝ }
+{
+    let c = *counts;
+    let n = *numbers;
+    let h = *heaters;
+    let b = *thermostats;
+    let a = StorageTank::new(crate::tanks::design_in(c, n, initial, h, b));
+    let t = a.tank;
+    put_tank(t, counts, numbers, temps, heaters, thermostats, flags);
+    a.number
+}
+
+// Steps the tank that the first six arrays hold, and writes the tank and the report of the answer in the arrays that hold them.
+#[no_mangle]
+pub extern "C" fn huszmago_step(
+    counts: &mut [usize; 2],
+    numbers: &mut [f64; 6],
+    temps: &mut [f64; MAX_LAYERS],
+    heaters: &mut [f64; 24],
+    thermostats: &mut [bool; MAX_HEATERS],
+    flags: &mut [bool; MAX_HEATERS],
+    totals: &mut [f64; 4],
+    figures: &mut [f64; 24],
+    line_flags: &mut [bool; MAX_HEATERS],
+    rounds: &mut [usize; MAX_HEATERS],
+    feed: f64,
+    asked: &[usize; 2],
+    volumes: &[f64; MAX_EVENTS],
+    present: &[bool; 16],
+    points: &[f64; 16],
+) -> u8
+    ensures { λ r. ⌜ StepAnswered (stepped (tankIn (now (counts .entry)) (now (numbers .entry)) (now (temps .entry)) (now (heaters .entry)) (now (thermostats .entry)) (now (flags .entry))) (reportIn (now (totals .entry)) (now (figures .entry)) (now («line_flags» .entry)) (now (rounds .entry))) (stepIn feed (now (asked .entry)) (now (volumes .entry)) (now (present .entry)) (now (points .entry)))) r (now (counts .exit)) (now (numbers .exit)) (now (temps .exit)) (now (heaters .exit)) (now (thermostats .exit)) (now (flags .exit)) (now (totals .exit)) (now (figures .exit)) (now («line_flags» .exit)) (now (rounds .exit)) ⌝ }
+{
+    let c = *counts;
+    let n = *numbers;
+    let layers = *temps;
+    let h = *heaters;
+    let b = *thermostats;
+    let f = *flags;
+    let t = crate::tanks::tank_in(c, n, layers, h, b, f);
+    let four = *totals;
+    let x = *figures;
+    let g = *line_flags;
+    let k = *rounds;
+    let r = crate::reports::report_in(four, x, g, k);
+    let e = *asked;
+    let v = *volumes;
+    let p = *present;
+    let q = *points;
+    let s = t.demand_hot_water(r, crate::steps::step_in(feed, e, v, p, q));
+    let tank = s.tank;
+    put_tank(tank, counts, numbers, temps, heaters, thermostats, flags);
+    let report = s.report;
+    put_report(report, totals, figures, line_flags, rounds);
+    s.number
+}

@@ -1,0 +1,155 @@
+// A report, from the arrays that hold it and back.
+ghost use mathlib.Core.Path.{_≡_};
+ghost use Prim.Native.Nat.{_<_};
+ghost use Rattle.working_order.specs.Order.{maxHeaters};
+ghost use Rattle.shim.specs.Reports.{lineIn, linesIn, reportIn, totalsOf, figuresOf, lineFlagsOf, roundsOf};
+use storage_tank::HeaterLine;
+use storage_tank::Report;
+use working_order::MAX_HEATERS;
+
+// The line of the heater h: adjusted inputs stand first, then energies supplied, then losses.
+fn line_in(
+    xs: [f64; 24],
+    flags: [bool; MAX_HEATERS],
+    rounds: [usize; MAX_HEATERS],
+    h: usize,
+) -> HeaterLine
+    requires { ⌜ h < maxHeaters ⌝ }
+    ensures { λ r. ⌜ r ≡ lineIn xs flags rounds h ⌝ }
+{
+    HeaterLine {
+        flag: flags[h],
+        adjusted: xs[h],
+        supplied: xs[8 + h],
+        losses: xs[16 + h],
+        rounds: rounds[h],
+    }
+}
+
+fn lines_in(
+    xs: [f64; 24],
+    flags: [bool; MAX_HEATERS],
+    rounds: [usize; MAX_HEATERS],
+) -> [HeaterLine; MAX_HEATERS]
+    ensures { λ r. ⌜ r ≡ linesIn xs flags rounds ⌝ }
+{
+    [
+        line_in(xs, flags, rounds, 0),
+        line_in(xs, flags, rounds, 1),
+        line_in(xs, flags, rounds, 2),
+        line_in(xs, flags, rounds, 3),
+        line_in(xs, flags, rounds, 4),
+        line_in(xs, flags, rounds, 5),
+        line_in(xs, flags, rounds, 6),
+        line_in(xs, flags, rounds, 7),
+    ]
+}
+
+pub fn report_in(
+    totals: [f64; 4],
+    figures: [f64; 24],
+    flags: [bool; MAX_HEATERS],
+    rounds: [usize; MAX_HEATERS],
+) -> Report
+    ensures { λ r. ⌜ r ≡ reportIn totals figures flags rounds ⌝ }
+{
+    let lines = lines_in(figures, flags, rounds);
+    Report {
+        energy: totals[0],
+        used: totals[1],
+        average: totals[2],
+        recoverable: totals[3],
+        lines,
+    }
+}
+
+pub fn totals_of(r: Report) -> [f64; 4]
+    ensures { λ t. ⌜ t ≡ totalsOf r ⌝ }
+{
+    [r.energy, r.used, r.average, r.recoverable]
+}
+
+pub fn figures_of(lines: [HeaterLine; MAX_HEATERS]) -> [f64; 24]
+    ensures { λ r. ⌜ r ≡ figuresOf lines ⌝ }
+{
+    let a = lines[0];
+    let b = lines[1];
+    let c = lines[2];
+    let d = lines[3];
+    let e = lines[4];
+    let f = lines[5];
+    let g = lines[6];
+    let h = lines[7];
+    [
+        a.adjusted,
+        b.adjusted,
+        c.adjusted,
+        d.adjusted,
+        e.adjusted,
+        f.adjusted,
+        g.adjusted,
+        h.adjusted,
+        a.supplied,
+        b.supplied,
+        c.supplied,
+        d.supplied,
+        e.supplied,
+        f.supplied,
+        g.supplied,
+        h.supplied,
+        a.losses,
+        b.losses,
+        c.losses,
+        d.losses,
+        e.losses,
+        f.losses,
+        g.losses,
+        h.losses,
+    ]
+}
+
+pub fn line_flags_of(lines: [HeaterLine; MAX_HEATERS]) -> [bool; MAX_HEATERS]
+    ensures { λ r. ⌜ r ≡ lineFlagsOf lines ⌝ }
+{
+    let a = lines[0];
+    let b = lines[1];
+    let c = lines[2];
+    let d = lines[3];
+    let e = lines[4];
+    let f = lines[5];
+    let g = lines[6];
+    let h = lines[7];
+    [
+        a.flag,
+        b.flag,
+        c.flag,
+        d.flag,
+        e.flag,
+        f.flag,
+        g.flag,
+        h.flag,
+    ]
+}
+
+pub fn rounds_of(lines: [HeaterLine; MAX_HEATERS]) -> [usize; MAX_HEATERS]
+    ensures { λ r. ⌜ r ≡ roundsOf lines ⌝ }
+{
+    let a = lines[0];
+    let b = lines[1];
+    let c = lines[2];
+    let d = lines[3];
+    let e = lines[4];
+    let f = lines[5];
+    let g = lines[6];
+    let h = lines[7];
+    [
+        a.rounds,
+        b.rounds,
+        c.rounds,
+        d.rounds,
+        e.rounds,
+        f.rounds,
+        g.rounds,
+        h.rounds,
+    ]
+}
