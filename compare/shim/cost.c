@@ -38,7 +38,7 @@ static void household(tank_arrays *t, report_arrays *r, step_arrays *a, size_t n
 
 /* A stretch of steps, each from what the one before left; the least of several stretches, in microseconds a step. */
 static double step_time(size_t n, size_t h, size_t e) {
-    enum { STRETCHES = 7, STEPS = 1500 };
+    enum { STRETCHES = 20, STEPS = 600 };
     tank_arrays t;
     report_arrays r;
     step_arrays a;
