@@ -9,7 +9,7 @@ use lib.IntN.{ℤ}
 use lib.Dec.{T, ltb, eqb, eqb→eq, eqb-refl, nltb→le, lit<}
 use lib.Pow.{pow-pos}
 use lib.Ieee.{Float, nan, inf, fin, Format, binary64, prec, emax, up, down, low, odd, units, round, mul, lt, le, eq, isNan, unlike, ofBits}
-use lib.Ieee.Fits.{down-pos, eq→eqb, and-l, and-r, and-i}
+use lib.Ieee.Fits.{down-pos, eq→eqb, and-l, and-i}
 use lib.Ieee.Scale.{finite}
 use lib.Ieee.Exact.{HasValue, round-exact}
 use lib.Ieee.Order.{round-mono}

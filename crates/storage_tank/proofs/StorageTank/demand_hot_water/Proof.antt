@@ -1,6 +1,5 @@
 -- `StorageTank::demand_hot_water`, the call step, meets its contract (01, The four calls; Step).
 use mathlib.Core.Path.{sym, _∙_}
-use native.Mathlib.Omega.{arith}
 use borrow.Author.Tests.{not-true, not-false}
 use Rattle.storage_tank.proofs.StepWorked.{step-refused, step-counts, drawn-refused, heated-refused, close-refused, step-accepted}
 use borrow.Author.Needs.{needs}

@@ -1,5 +1,4 @@
 -- `is_position` meets its contract.
-use borrow.Author.Needs.{needs}
 use Rattle.storage_tank.proofs.checks.is_position.Statement.{statement}
 use Rattle.storage_tank.proofs.checks.is_position.Tie as tie
 

@@ -1,5 +1,4 @@
 -- `clean_heater` meets its contract.
-use borrow.Author.Needs.{needs}
 use Rattle.storage_tank.proofs.make.clean_heater.Statement.{statement}
 use Rattle.storage_tank.proofs.make.clean_heater.Tie as tie
 

@@ -1,5 +1,5 @@
 -- `fitted_heaters` meets its contract (01, Tank). The loop's invariant: the places passed hold what a tank has there, the others zeros.
-use mathlib.Core.Path.{_≡_, refl, sym, _∙_}
+use mathlib.Core.Path.{_≡_, refl, _∙_}
 use mathlib.Core.Bool.{cond}
 use mathlib.Core.List.{List}
 use Prim.Native.Nat.{ℕ, _-_, _≤_}

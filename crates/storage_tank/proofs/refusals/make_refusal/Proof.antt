@@ -1,6 +1,5 @@
 -- `make_refusal` meets its contract: what its two parts decide, in order.
 use mathlib.Core.Path.{sym, _∙_}
-use native.Mathlib.Omega.{arith}
 use Rattle.storage_tank.proofs.FirstRefusal.{counts-pass, make-first, make-last}
 use borrow.Author.Needs.{needs}
 use Rattle.storage_tank.proofs.refusals.make_refusal.Statement.{statement}

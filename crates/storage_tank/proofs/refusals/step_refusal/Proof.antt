@@ -1,6 +1,5 @@
 -- `step_refusal` meets its contract: what its three parts decide, in order.
 use mathlib.Core.Path.{sym, _∙_}
-use native.Mathlib.Omega.{arith}
 use Rattle.storage_tank.proofs.FirstRefusal.{counts-pass, step-first, step-middle, step-last}
 use borrow.Author.Needs.{needs}
 use Rattle.storage_tank.proofs.refusals.step_refusal.Statement.{statement}

@@ -1,7 +1,6 @@
 -- `heat_turns` meets its contract (01, Step): the turns in the order of work.
 use mathlib.Core.Path.{sym, ap, _∙_}
 use mathlib.Core.List.{List}
-use Prim.Native.Nat.{ℕ}
 use native.Mathlib.Omega.{arith}
 use lib.Ieee.{Float}
 use Rattle.working_order.specs.Order.{risingOrder}
