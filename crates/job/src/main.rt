@@ -2,7 +2,6 @@
 ghost use mathlib.Core.Path.{_≡_};
 ghost use Prim.Native.Nat.{_<_};
 ghost use Rattle.job_run.specs.Job.{turn};
-
 use job_run::Job;
 use libc::STDIN_FILENO;
 use libc::STDOUT_FILENO;
