@@ -1,8 +1,8 @@
 -- Proves that the heaters' lines look at no more of an order than there are heaters (01, Job).
-use Prim.Native.Nat.{ℕ, zero, suc, _+_, _≤_, _<_}
+use Prim.Native.Nat.{ℕ, zero, suc, _<_}
 use native.Mathlib.Omega.{arith}
 use mathlib.Core.Path.{_≡_, refl, sym, ap, _∙_}
-use mathlib.Core.List.{List, _++_}
+use mathlib.Core.List.{List}
 use lib.ListN.{getD, take}
 use lib.Seq.{getD-take}
 use lib.Ieee.{Float}

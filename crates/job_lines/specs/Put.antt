@@ -1,5 +1,5 @@
 -- States what a buffer holds after a text is put at a place of it, as far as it fits (01, Job: the lines), and that texts put one after the other are one text.
-use Prim.Native.Nat.{ℕ, zero, suc, _+_}
+use Prim.Native.Nat.{ℕ, suc, _+_}
 use native.Mathlib.Omega.{arith}
 use native.Mathlib.Nat.{add-zero}
 use mathlib.Core.Path.{_≡_, refl, sym, ap, _∙_}

@@ -1,14 +1,10 @@
-// Bytes, digits and numbers, each put at a place of a lent buffer; what falls past its end is left out.
+// Bytes, digits and numbers, each put at a place of a lent buffer; what falls past its end is left out. The bounds on places keep their sums from wrapping.
 ghost use mathlib.Core.Path.{_≡_};
-ghost use mathlib.Core.Bool.{cond};
 ghost use mathlib.Core.List.{[], _∷_};
 ghost use Prim.Native.Nat.{_+_, _≤_, _<_};
 ghost use lib.ListN.{set};
 ghost use Rattle.job_lines.specs.Put.{Put};
 ghost use Rattle.job_lines.specs.Text.{digitOf, digits, widthOf, numberText, doubleText};
-
-// How many places text is put at, at most: no sum of places wraps.
-pub const LAST_PLACE: usize = 4096;
 
 // The decimal digits that a number can have.
 const MAX_WIDTH: usize = 20;

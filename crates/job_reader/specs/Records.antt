@@ -1,16 +1,12 @@
 -- States what reading a job answers (01, The four calls; Job; refusal 11): the record at a position, by what came before it, and the position after it.
 use Prim.Native.Nat.{ℕ, _+_, _*_}
-use mathlib.Core.Bool.{Bool, true, false, cond, not, _&&_}
+use mathlib.Core.Bool.{Bool, cond, not, _&&_}
 use mathlib.Core.List.{List}
 use lib.Dec.{leb, eqb}
 use lib.ListN.{length}
-use lib.Ieee.{Float}
 use Rattle.numeric.specs.Double.{zero-f}
 use Rattle.numeric.specs.Holds.{holds}
-use Rattle.storage_tank.specs.declared.Heater.{Heater}
 use Rattle.working_order.specs.Order.{maxHeaters}
-use Rattle.job_reader.specs.declared.TankRecord.{TankRecord}
-use Rattle.job_reader.specs.declared.StepRecord.{StepRecord}
 use Rattle.job_reader.specs.declared.Record.{Record}
 use Rattle.job_reader.specs.declared.Record.the-variants.{Tank, Heater as HeaterCase, Step, Refused}
 use Rattle.job_reader.specs.declared.Reading.{Reading}

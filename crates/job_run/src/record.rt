@@ -2,7 +2,6 @@
 ghost use mathlib.Core.Path.{_≡_};
 ghost use Prim.Native.Nat.{_<_};
 ghost use Rattle.job_run.specs.Job.{Turned, refusedTurn, madeTurn, heaterTurn, stepTurn, endTurn, turn, endedJob};
-
 use crate::Job;
 use crate::Printed;
 use job_reader::Record;

@@ -3,7 +3,6 @@ ghost use mathlib.Core.Path.{_≡_};
 ghost use Prim.Native.Nat.{_<_};
 ghost use Rattle.working_order.specs.Order.{maxHeaters};
 ghost use Rattle.job_run.specs.Job.{noReport, designOf, withHeater, noDesign, startJob, stepOf};
-
 use crate::Job;
 use draw_off::event::MAX_EVENTS;
 use job_reader::StepRecord;

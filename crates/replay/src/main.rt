@@ -1,6 +1,6 @@
 // Runs the stored jobs through the functions that the program `job` runs, and holds every line against the Rust's.
 // Standard input is a case after another: a 4-byte length and a job, then a 4-byte length and the lines that it must print.
-ghost use Prim.Native.Nat.{_≤_, _<_};
+ghost use Prim.Native.Nat.{_<_};
 ghost use lib.ListN.{length};
 use libc::STDIN_FILENO;
 use libc::STDOUT_FILENO;

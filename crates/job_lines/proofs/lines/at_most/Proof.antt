@@ -2,7 +2,6 @@
 use native.Mathlib.Omega.{arith}
 use borrow.Author.Tests.{le-leb, lt-leb}
 use Rattle.job_lines.specs.Lines.{atMost}
-use borrow.Author.Needs.{needs}
 use Rattle.job_lines.proofs.lines.at_most.Statement.{statement}
 use Rattle.job_lines.proofs.lines.at_most.Tie as tie
 

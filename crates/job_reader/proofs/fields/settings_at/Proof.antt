@@ -1,7 +1,7 @@
 -- `fields::settings_at` meets its contract (01, Job). The loop's invariant: the first k places are filled.
 use Rattle.numeric.specs.Tabulate.{tabulate}
 use mathlib.Core.Path.{_≡_, refl}
-use Prim.Native.Nat.{ℕ, _-_, _≤_}
+use Prim.Native.Nat.{_-_, _≤_}
 use native.Mathlib.Omega.{arith}
 use Rattle.storage_tank.specs.Checks.{noSetting}
 use Rattle.job_reader.specs.Fields.{filled, noSettings, settingAt, settingsAt}

@@ -1,5 +1,5 @@
 -- `record::run_step` meets its contract (01, Job): the step's lines, and one step more.
-use mathlib.Core.Path.{refl, sym}
+use mathlib.Core.Path.{refl}
 use Rattle.job_run.specs.Job.{stepTurn}
 use borrow.Author.Needs.{needs}
 use Rattle.job_run.proofs.record.run_step.Statement.{statement}
