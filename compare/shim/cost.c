@@ -57,15 +57,20 @@ static double step_time(size_t n, size_t h, size_t e) {
 
 /* Reading and writing the arrays, with a tank that is refused at once. */
 static double shim_time(void) {
-    enum { STEPS = 200000 };
+    enum { STRETCHES = 200, STEPS = 2000 };
     tank_arrays t;
     report_arrays r;
     step_arrays a;
     household(&t, &r, &a, 0, 0, 0);
-    double start = now();
-    unsigned sum = 0;
-    for (int i = 0; i < STEPS; i++) sum += step(&t, &r, &a);
-    return sum == STEPS ? (now() - start) / STEPS : -1;
+    double least = 1e300;
+    for (int k = 0; k < STRETCHES; k++) {
+        double start = now();
+        for (int i = 0; i < STEPS; i++)
+            if (step(&t, &r, &a) != 1) return -1;
+        double each = (now() - start) / STEPS;
+        if (each < least) least = each;
+    }
+    return least;
 }
 
 /* The stack: a step runs on a stretch of memory filled with one byte, and the deepest byte that it changed is looked up. */

@@ -1,5 +1,5 @@
 -- `calls::huszmago_make` meets its contract (01, The four calls): the tank that make answers is written.
-use mathlib.Core.Path.{_≡_, ap, _∙_}
+use mathlib.Core.Path.{ap, _∙_}
 use Rattle.storage_tank.specs.Calls.{made}
 use borrow.Author.Needs.{needs}
 use Rattle.shim.proofs.calls.huszmago_make.Statement.{statement}
@@ -16,7 +16,8 @@ put-tank-requires c κs = search needs
 
 returns : tie.Need-returns
 returns c =
-    let a = c .before .before .before .before .before .before .before .before .new .ensures ∙ ap made (c .before .before .before .before .before .before .before .before .before .design-in .ensures) in
+    let ran = c .before .before .before .before .before .before .before .before in
+    let a = ran .new .ensures ∙ ap made (ran .before .design-in .ensures) in
     record { number-is = ap (λ x. x .number) a; tank-held = rw (← a) (c .put-tank .ensures) }
 
 pub huszmago-make-spec : {M : Type 1} → statement M

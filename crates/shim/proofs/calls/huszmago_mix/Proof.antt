@@ -1,5 +1,5 @@
 -- `calls::huszmago_mix` meets its contract (01, The four calls): the answer of mix, taken apart.
-use mathlib.Core.Path.{_≡_, ap, _∙_}
+use mathlib.Core.Path.{ap, _∙_}
 use mathlib.Core.List.{[], _∷_}
 use Rattle.mixing.specs.Mix.{numberOf, roundsOf}
 use borrow.Author.Needs.{needs}

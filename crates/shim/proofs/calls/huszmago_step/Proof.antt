@@ -1,6 +1,4 @@
 -- `calls::huszmago_step` meets its contract (01, The four calls): the tank and the report that the step answers are written.
-use mathlib.Core.Path.{_≡_, ap, _∙_}
-use Rattle.storage_tank.specs.Calls.{stepped}
 use borrow.Author.Needs.{needs}
 use Rattle.shim.proofs.calls.huszmago_step.Statement.{statement}
 use Rattle.shim.proofs.calls.huszmago_step.Tie as tie
@@ -25,8 +23,13 @@ put-report-requires c κs = search needs
 
 returns : tie.Need-returns
 returns c =
-    let s = rw (c .before .before .before .before .before .before .before .before .before .before .before .before .before .before .before .before .before .before .before .before .before .before .before .before .before .tank-in .ensures, c .before .before .before .before .before .before .before .before .before .before .before .before .before .before .before .before .before .before .before .before .report-in .ensures, c .before .before .before .before .before .before .before .before .before .before .before .before .before .before .before .step-in .ensures) at (c .before .before .before .before .before .before .before .before .before .before .before .before .before .before .demand-hot-water .ensures) in
-    record { number-is = ap (λ x. x .number) s; tank-held = rw (← s) (c .before .before .before .before .before .before .put-tank .ensures); report-held = rw (← s) (c .put-report .ensures) }
+    let written = c .before .before .before .before .before .before in
+    let ran = written .before .before .before .before .before .before .before .before in
+    let asked = ran .before in
+    let reported = asked .before .before .before .before .before in
+    let held = reported .before .before .before .before .before in
+    let s = rw (held .tank-in .ensures, reported .report-in .ensures, asked .step-in .ensures) at (ran .demand-hot-water .ensures) in
+    record { number-is = rw s; tank-held = rw (← s) (written .put-tank .ensures); report-held = rw (← s) (c .put-report .ensures) }
 
 pub huszmago-step-spec : {M : Type 1} → statement M
 huszmago-step-spec =

@@ -1,0 +1,96 @@
+-- Proves that an exported step that is refused leaves every lent array as it was (01, The four calls), as far as the logic tells one not-a-number from another.
+use Prim.Native.Nat.{ℕ, suc, _+_, _<_}
+use native.Mathlib.Omega.{arith}
+use mathlib.Core.Path.{_≡_, refl, sym, ap, _∙_, subst}
+use mathlib.Core.Bool.{Bool, false}
+use mathlib.Core.List.{List, [], _∷_}
+use lib.ListN.{length, getD}
+use lib.Ieee.{Float, nan}
+use Rattle.numeric.specs.Tabulate.{tabulate}
+use Rattle.storage_tank.specs.declared.Step.{Step}
+use Rattle.storage_tank.specs.declared.StorageTank.{StorageTank}
+use Rattle.storage_tank.specs.declared.Report.{Report}
+use Rattle.storage_tank.specs.Calls.{stepped}
+use Rattle.storage_tank.proofs.Calls.{refused-step}
+use Rattle.shim.specs.Tanks.{fittedIn, tankIn, heatersOf, thermostatsOf, TankWritten}
+use Rattle.shim.specs.Reports.{linesIn, reportIn, figuresOf, lineFlagsOf, roundsOf, ReportWritten}
+use Rattle.shim.specs.Answers.{StepAnswered}
+
+-- ---- a list is the list of its places
+
+module _ {A : Type 0} (d : A) where
+  places-from : (xs : List A) (g : ℕ → A) (i : ℕ) → ((j : ℕ) → g (i + j) ≡ getD xs j d) → tabulate g (length xs) i ≡ xs
+  unfolding tabulate
+  places-from [] g i h = refl
+  places-from (x ∷ xs) g i h =
+      let first : i ≡ i + 0 = omega arith in
+      rw (ap g first ∙ h 0, places-from xs g (i + 1) (λ j. let next : i + 1 + j ≡ i + suc j = omega arith in ap g next ∙ h (suc j)))
+
+  places : (n : ℕ) (xs : List A) → length xs ≡ n → tabulate (λ (i : ℕ). getD xs i d) n 0 ≡ xs
+  places n xs e = subst (λ (k : ℕ). tabulate (λ (i : ℕ). getD xs i d) k 0 ≡ xs) e (places-from xs (λ (i : ℕ). getD xs i d) 0 (λ j. let start : 0 + j ≡ j = omega arith in ap (λ (k : ℕ). getD xs k d) start))
+
+-- ---- arrays of the lent lengths hold the tank and the report that are read from them
+
+module _ (counts : List ℕ) (numbers temps heaters : List Float) (thermostats flags : List Bool) (counts-long : length counts ≡ 2) (numbers-long : length numbers ≡ 6) (heaters-long : length heaters ≡ 24) (thermostats-long : length thermostats ≡ 8) where
+  pub tank-held-as-lent : TankWritten (tankIn counts numbers temps heaters thermostats flags) counts numbers temps heaters thermostats flags
+  unfolding tankIn fittedIn heatersOf thermostatsOf tabulate
+  tank-held-as-lent = record {
+    counts-held = sym (places 0 2 counts counts-long);
+    numbers-held = sym (places nan 6 numbers numbers-long);
+    temps-held = refl;
+    heaters-held = sym (places nan 24 heaters heaters-long);
+    thermostats-held = sym (places false 8 thermostats thermostats-long);
+    flags-held = refl;
+  }
+
+module _ (totals figures : List Float) (flags : List Bool) (rounds : List ℕ) (totals-long : length totals ≡ 4) (figures-long : length figures ≡ 24) (flags-long : length flags ≡ 8) (rounds-long : length rounds ≡ 8) where
+  pub report-held-as-lent : ReportWritten (reportIn totals figures flags rounds) totals figures flags rounds
+  unfolding reportIn linesIn figuresOf lineFlagsOf roundsOf tabulate
+  report-held-as-lent = record {
+    totals-held = sym (places nan 4 totals totals-long);
+    figures-held = sym (places nan 24 figures figures-long);
+    flags-held = sym (places false 8 flags flags-long);
+    rounds-held = sym (places 0 8 rounds rounds-long);
+  }
+
+-- ---- a refused step
+
+module _ (counts : List ℕ) (numbers temps heaters : List Float) (thermostats flags : List Bool) (counts-long : length counts ≡ 2) (numbers-long : length numbers ≡ 6) (heaters-long : length heaters ≡ 24) (thermostats-long : length thermostats ≡ 8) (totals figures : List Float) (lineFlags : List Bool) (rounds : List ℕ) (totals-long : length totals ≡ 4) (figures-long : length figures ≡ 24) (flags-long : length lineFlags ≡ 8) (rounds-long : length rounds ≡ 8) where
+  abbrev lentTank : StorageTank
+  lentTank = tankIn counts numbers temps heaters thermostats flags
+
+  abbrev lentReport : Report
+  lentReport = reportIn totals figures lineFlags rounds
+
+  -- the arrays after the call are those before it
+  pub record Kept (counts' : List ℕ) (numbers' temps' heaters' : List Float) (thermostats' flags' : List Bool) (totals' figures' : List Float) (lineFlags' : List Bool) (rounds' : List ℕ) : Type 0 where
+    pub counts-kept : counts' ≡ counts
+    pub numbers-kept : numbers' ≡ numbers
+    pub temps-kept : temps' ≡ temps
+    pub heaters-kept : heaters' ≡ heaters
+    pub thermostats-kept : thermostats' ≡ thermostats
+    pub flags-kept : flags' ≡ flags
+    pub totals-kept : totals' ≡ totals
+    pub figures-kept : figures' ≡ figures
+    pub line-flags-kept : lineFlags' ≡ lineFlags
+    pub rounds-kept : rounds' ≡ rounds
+
+  pub refused-keeps : (a : Step) (number : ℕ) (counts' : List ℕ) (numbers' temps' heaters' : List Float) (thermostats' flags' : List Bool) (totals' figures' : List Float) (lineFlags' : List Bool) (rounds' : List ℕ) → StepAnswered (stepped lentTank lentReport a) number counts' numbers' temps' heaters' thermostats' flags' totals' figures' lineFlags' rounds' → 0 < number → Kept counts' numbers' temps' heaters' thermostats' flags' totals' figures' lineFlags' rounds'
+  refused-keeps a number counts' numbers' temps' heaters' thermostats' flags' totals' figures' lineFlags' rounds' s l =
+      let same = refused-step lentTank lentReport a (subst (λ (n : ℕ). 0 < n) (s .number-is) l) in
+      let t = subst (λ (x : StorageTank). TankWritten x counts' numbers' temps' heaters' thermostats' flags') (same .0) (s .tank-held) in
+      let t₀ = tank-held-as-lent counts numbers temps heaters thermostats flags counts-long numbers-long heaters-long thermostats-long in
+      let r = subst (λ (x : Report). ReportWritten x totals' figures' lineFlags' rounds') (same .1) (s .report-held) in
+      let r₀ = report-held-as-lent totals figures lineFlags rounds totals-long figures-long flags-long rounds-long in
+      record {
+        counts-kept = t .counts-held ∙ sym (t₀ .counts-held);
+        numbers-kept = t .numbers-held ∙ sym (t₀ .numbers-held);
+        temps-kept = t .temps-held ∙ sym (t₀ .temps-held);
+        heaters-kept = t .heaters-held ∙ sym (t₀ .heaters-held);
+        thermostats-kept = t .thermostats-held ∙ sym (t₀ .thermostats-held);
+        flags-kept = t .flags-held ∙ sym (t₀ .flags-held);
+        totals-kept = r .totals-held ∙ sym (r₀ .totals-held);
+        figures-kept = r .figures-held ∙ sym (r₀ .figures-held);
+        line-flags-kept = r .flags-held ∙ sym (r₀ .flags-held);
+        rounds-kept = r .rounds-held ∙ sym (r₀ .rounds-held);
+      }
