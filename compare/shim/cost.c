@@ -73,6 +73,37 @@ static double shim_time(void) {
     return least;
 }
 
+/* One mixing of 32 layers, and its rounds. */
+static void show_mix(const char *what, const double *temps) {
+    enum { STRETCHES = 200, MIXES = 300 };
+    double least = 1e300;
+    size_t rounds[1];
+    for (int k = 0; k < STRETCHES; k++) {
+        double start = now();
+        for (int i = 0; i < MIXES; i++) {
+            double layers[LAYERS];
+            memcpy(layers, temps, sizeof layers);
+            huszmago_mix(layers, LAYERS, 4.7, rounds);
+        }
+        double each = (now() - start) / MIXES;
+        if (each < least) least = each;
+    }
+    printf("mix, %s: %.2f, rounds %zu\n", what, least, rounds[0]);
+}
+
+/* Layers that all join, layers that none joins, and cold water above layers that rise less and less, so that each round reaches one layer further down. */
+static void show_mixes(void) {
+    double equal[LAYERS], rising[LAYERS], steep[LAYERS];
+    for (int i = 0; i < LAYERS; i++) {
+        equal[i] = 55;
+        rising[i] = 40 + 0.5 * i;
+        steep[i] = i < LAYERS - 1 ? 100 - 100.0 / (double)(1u << (i < 30 ? i : 30)) : -1e6;
+    }
+    show_mix("equal layers", equal);
+    show_mix("rising layers", rising);
+    show_mix("cold above rising layers", steep);
+}
+
 /* The stack: a step runs on a stretch of memory filled with one byte, and the deepest byte that it changed is looked up. */
 enum { STACK = 1 << 20, FILL = 0xa5 };
 static unsigned char stack[STACK] __attribute__((aligned(64)));
@@ -113,6 +144,7 @@ int main(void) {
             printf("\n");
         }
     printf("arrays read and written, no work: %.3f\n", shim_time());
+    show_mixes();
     printf("stack, bytes: refused at once %zu; 4 layers, 1 heater, 4 events %zu; 32 layers, 8 heaters, 64 events %zu; the same with a feed of 70 %zu\n",
            stack_of(0, 0, 0, 10), stack_of(4, 1, 4, 10), stack_of(32, 8, 64, 10), stack_of(32, 8, 64, 70));
     return 0;
