@@ -17,9 +17,7 @@ fn print_record(bytes: &[u8], job: Job) -> Job
     let mut lines = io::buffer();
     let p = job_run::record::next_record(&mut lines, bytes, job);
     let n = p.length;
-    if n <= lines.len() {
-        io::write_all(STDOUT_FILENO, &lines[..n]);
-    }
+    io::write_all(STDOUT_FILENO, &lines[..n]);
     let next = p.job;
     next
 }

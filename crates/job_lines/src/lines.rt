@@ -110,7 +110,7 @@ fn put_heater_lines(
 
 // E, a number and the record's start.
 pub fn refusal_line(buf: &mut [u8], number: u8, offset: usize) -> usize
-    ensures { λ r. ⌜ (r ≡ length (refusalLine number offset)) × (now (buf .exit) ≡ written (now (buf .entry)) (refusalLine number offset)) ⌝ }
+    ensures { λ r. ⌜ (r ≡ length (refusalLine number offset)) × (now (buf .exit) ≡ written (now (buf .entry)) (refusalLine number offset)) × (r ≤ 1500) ⌝ }
 {
     let a = put_byte(buf, 0, b'E');
     let b = put_number(buf, a, number as usize);
@@ -126,7 +126,7 @@ fn refused_lines(
     layers: usize,
     temps: &[f64; MAX_LAYERS],
 ) -> usize
-    ensures { λ r. ⌜ (r ≡ length (refusedLines index number layers (now (temps .entry)))) × (now (buf .exit) ≡ written (now (buf .entry)) (refusedLines index number layers (now (temps .entry)))) ⌝ }
+    ensures { λ r. ⌜ (r ≡ length (refusedLines index number layers (now (temps .entry)))) × (now (buf .exit) ≡ written (now (buf .entry)) (refusedLines index number layers (now (temps .entry)))) × (r ≤ 1500) ⌝ }
 {
     let n = at_most(layers, MAX_LAYERS);
     let a = put_head(buf, index, number);
@@ -145,7 +145,7 @@ fn accepted_lines(
     order: [usize; MAX_HEATERS],
 ) -> usize
     requires { ⌜ (heaters ≤ maxHeaters) × ((k : ℕ) → k < heaters → getD order k 0 < maxHeaters) ⌝ }
-    ensures { λ r. ⌜ (r ≡ length (acceptedLines index report layers (now (temps .entry)) heaters order)) × (now (buf .exit) ≡ written (now (buf .entry)) (acceptedLines index report layers (now (temps .entry)) heaters order)) ⌝ }
+    ensures { λ r. ⌜ (r ≡ length (acceptedLines index report layers (now (temps .entry)) heaters order)) × (now (buf .exit) ≡ written (now (buf .entry)) (acceptedLines index report layers (now (temps .entry)) heaters order)) × (r ≤ 1500) ⌝ }
 {
     let n = at_most(layers, MAX_LAYERS);
     let a = put_head(buf, index, 0);
@@ -157,7 +157,7 @@ fn accepted_lines(
 
 // A step's lines, by its number. Its heaters are printed in working order.
 pub fn step_lines(buf: &mut [u8], index: usize, s: Stepped) -> usize
-    ensures { λ r. ⌜ (r ≡ length (stepLines index s)) × (now (buf .exit) ≡ written (now (buf .entry)) (stepLines index s)) ⌝ }
+    ensures { λ r. ⌜ (r ≡ length (stepLines index s)) × (now (buf .exit) ≡ written (now (buf .entry)) (stepLines index s)) × (r ≤ 1500) ⌝ }
 {
     let t = s.tank;
     let temps = t.temps;

@@ -1,5 +1,5 @@
 -- States a whole job (01, Job): records read one after the other, the tank made, its heaters added, its steps run, and the lines that each record prints.
-use Prim.Native.Nat.{ℕ, zero, suc, _+_}
+use Prim.Native.Nat.{ℕ, zero, suc, _+_, _≤_}
 use mathlib.Core.Bool.{Bool, true, false, cond, not, _&&_}
 use mathlib.Core.Path.{_≡_}
 use mathlib.Core.List.{List, [], _++_}
@@ -80,11 +80,12 @@ pub record Turn : Type 0 where
   pub job : Job
   pub text : List ℕ
 
--- a function's answer and its lent buffer are a turn's job and text
+-- a function's answer and its lent buffer are a turn's job and text, which is never long
 pub record Turned (t : Turn) (before after : List ℕ) (r : Printed) : Type 0 where
   pub goes : r .job ≡ t .job
   pub counts : r .length ≡ length (t .text)
   pub prints : after ≡ written before (t .text)
+  pub short : r .length ≤ 1500
 
 abbrev pub endedJob : Job → Job
 endedJob j = record { at = j .at; ended = true; «has_tank» = j .«has_tank»; steps = j .steps; design = j .design; tank = j .tank; report = j .report }

@@ -1,4 +1,4 @@
--- `print_record` meets its contract (01, Job): the lines written are the first of the buffer.
+-- `print_record` meets its contract (01, Job): the lines written are the first of the buffer, which is never too small.
 use mathlib.Core.Path.{sym}
 use lib.Seq.{length-take-le}
 use borrow.Author.Needs.{needs}

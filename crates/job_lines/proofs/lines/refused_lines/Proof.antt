@@ -1,6 +1,7 @@
 -- `lines::refused_lines` meets its contract (01, Job): its parts, one after the other.
 use Rattle.job_lines.specs.Put.{put-then, put-first}
 use Rattle.job_lines.specs.Lines.{refusedLines}
+use native.Mathlib.Omega.{arith}
 use borrow.Author.Needs.{needs}
 use Rattle.job_lines.proofs.lines.refused_lines.Statement.{statement}
 use Rattle.job_lines.proofs.lines.refused_lines.Tie as tie
@@ -22,7 +23,9 @@ same-length c = search needs
 
 returns : tie.Need-returns
 unfolding refusedLines
-returns c = rw (← c .before .before .before .before .before .before .before .before .before .before .before .before .at-most .ensures .0) (put-first (put-then (put-then (c .before .before .before .before .before .before .before .before .before .before .put-head .ensures .0) (c .before .before .before .before .before .before .put-byte .ensures .0)) (c .before .before .put-layers-line .ensures .0)))
+returns c =
+    let put = put-first (put-then (put-then (c .before .before .before .before .before .before .before .before .before .before .put-head .ensures .0) (c .before .before .before .before .before .before .put-byte .ensures .0)) (c .before .before .put-layers-line .ensures .0)) in
+    (rw (← c .before .before .before .before .before .before .before .before .before .before .before .before .at-most .ensures .0) (put .0), rw (← c .before .before .before .before .before .before .before .before .before .before .before .before .at-most .ensures .0) (put .1), omega arith)
 
 pub refused-lines-spec : {M : Type 1} → statement M
 refused-lines-spec =

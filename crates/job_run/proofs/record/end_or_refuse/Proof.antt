@@ -3,6 +3,7 @@ use mathlib.Core.Path.{refl, sym}
 use borrow.Author.Tests.{eq-eqb, ne-eqb}
 use Rattle.job_lines.specs.Put.{written-nothing}
 use Rattle.job_run.specs.Job.{endTurn}
+use native.Mathlib.Omega.{arith}
 use borrow.Author.Needs.{needs}
 use Rattle.job_run.proofs.record.end_or_refuse.Statement.{statement}
 use Rattle.job_run.proofs.record.end_or_refuse.Tie as tie
@@ -32,7 +33,7 @@ end-job-requires c κs = search needs
 
 returns-3 : tie.Need-returns-3
 unfolding endTurn
-returns-3 c = rw (eq-eqb _ _ (c .before .before .before .if1 .left), ne-eqb _ _ (c .before .if2 .left)) (record { goes = c .end-job .ensures; counts = refl; prints = sym (written-nothing _) })
+returns-3 c = rw (eq-eqb _ _ (c .before .before .before .if1 .left), ne-eqb _ _ (c .before .if2 .left)) (record { goes = c .end-job .ensures; counts = refl; prints = sym (written-nothing _); short = omega arith })
 
 pub end-or-refuse-spec : {M : Type 1} → statement M
 end-or-refuse-spec =

@@ -3,6 +3,7 @@ use mathlib.Core.Path.{refl, sym}
 use borrow.Author.Tests.{eq-eqb, ne-eqb}
 use Rattle.job_lines.specs.Put.{written-nothing}
 use Rattle.job_run.specs.Job.{madeTurn}
+use native.Mathlib.Omega.{arith}
 use borrow.Author.Needs.{needs}
 use Rattle.job_run.proofs.record.make_tank.Statement.{statement}
 use Rattle.job_run.proofs.record.make_tank.Tie as tie
@@ -22,7 +23,7 @@ returns c = rw (← c .before .before .before .before .before .before .new .ensu
 
 returns-2 : tie.Need-returns-2
 unfolding madeTurn
-returns-2 c = rw (← c .before .before .before .new .ensures, eq-eqb _ _ (c .before .if1 .left)) (record { goes = refl; counts = refl; prints = sym (written-nothing _) })
+returns-2 c = rw (← c .before .before .before .new .ensures, eq-eqb _ _ (c .before .if1 .left)) (record { goes = refl; counts = refl; prints = sym (written-nothing _); short = omega arith })
 
 pub make-tank-spec : {M : Type 1} → statement M
 make-tank-spec = tie.close (tie.spec new-requires refuse-requires same-length returns returns-2)

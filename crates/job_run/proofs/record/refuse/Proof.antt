@@ -15,7 +15,7 @@ same-length c = search needs
 
 returns : tie.Need-returns
 unfolding refusedTurn
-returns c = record { goes = c .end-job .ensures; counts = c .before .before .before .refusal-line .ensures .0; prints = c .before .before .before .refusal-line .ensures .1 }
+returns c = record { goes = c .end-job .ensures; counts = c .before .before .before .refusal-line .ensures .0; prints = c .before .before .before .refusal-line .ensures .1; short = c .before .before .before .refusal-line .ensures .2 }
 
 pub refuse-spec : {M : Type 1} → statement M
 refuse-spec = tie.close (tie.spec refusal-line-requires end-job-requires same-length returns)

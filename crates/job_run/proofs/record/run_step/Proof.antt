@@ -19,7 +19,7 @@ same-length c = search needs
 
 returns : tie.Need-returns
 unfolding stepTurn
-returns c = rw (← c .before .before .before .before .before .before .before .demand-hot-water .ensures) (record { goes = refl; counts = c .before .before .before .before .before .step-lines .ensures .0; prints = c .before .before .before .before .before .step-lines .ensures .1 })
+returns c = rw (← c .before .before .before .before .before .before .before .demand-hot-water .ensures) (record { goes = refl; counts = c .before .before .before .before .before .step-lines .ensures .0; prints = c .before .before .before .before .before .step-lines .ensures .1; short = c .before .before .before .before .before .step-lines .ensures .2 })
 
 pub run-step-spec : {M : Type 1} → statement M
 run-step-spec =
