@@ -30,9 +30,6 @@ fn run(bytes: &[u8]) {
         if job.ended {
             return;
         }
-        if job.steps >= MAX_BYTES {
-            return;
-        }
         job = print_record(bytes, job);
     }
 }

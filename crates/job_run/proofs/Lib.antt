@@ -1,0 +1,2 @@
+-- The laws of `job_run`.
+pub mod Counts
