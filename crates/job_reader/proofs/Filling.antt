@@ -3,19 +3,14 @@ use Prim.Native.Nat.{ℕ, zero, suc, _+_, _<_}
 use native.Mathlib.Omega.{arith}
 use native.Mathlib.Nat.{add-zero, zero-add}
 use native.Mathlib.Numerals.{add-one}
-use mathlib.Core.Path.{_≡_, refl, ap}
+use mathlib.Core.Path.{_≡_}
 use mathlib.Core.List.{List, [], _∷_, _++_, append-assoc}
 use lib.ListN.{length, getD, set, drop}
 use lib.Seq.{drop-cons, set-at}
-use Rattle.numeric.specs.Tabulate.{tabulate}
+use Rattle.numeric.specs.Tabulate.{tabulate, length-tabulate}
 use Rattle.job_reader.specs.Fields.{filled}
 
 module _ {A : Type 0} (g : ℕ → A) where
-  tabulate-length : (k i : ℕ) → length (tabulate g k i) ≡ k
-  unfolding tabulate
-  tabulate-length zero i = refl
-  tabulate-length (suc k) i = ap suc (tabulate-length k (i + 1))
-
   tabulate-more : (k i : ℕ) → tabulate g (suc k) i ≡ tabulate g k i ++ (g (i + k) ∷ [])
   unfolding tabulate
   tabulate-more zero i = rw add-zero
@@ -25,4 +20,4 @@ module _ {A : Type 0} (g : ℕ → A) where
 
   pub filled-turn : (d : A) (k : ℕ) (xs : List A) → k < length xs → set (filled g k xs) k (g k) ≡ filled g (k + 1) xs
   filled-turn d k xs h =
-      rw (drop-cons xs k d h, set-at (tabulate g k 0) (getD xs k d) (drop (suc k) xs) (g k) k (tabulate-length k 0), add-one, tabulate-more k 0, append-assoc, zero-add)
+      rw (drop-cons xs k d h, set-at (tabulate g k 0) (getD xs k d) (drop (suc k) xs) (g k) k (length-tabulate g k 0), add-one, tabulate-more k 0, append-assoc, zero-add)

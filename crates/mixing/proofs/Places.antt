@@ -1,22 +1,20 @@
--- Proves that a mixing of n layers reads and writes the first n places alone (01, Mix): the places past the layers are as they were, and neither they nor
--- the volumes past the layers bear on what it does.
+-- Proves that a mixing of n layers reads the first n places alone (01, Mix): neither the places nor the volumes past the layers bear on what it does.
 use mathlib.Core.Bool.{Bool, true, false, cond}
-use mathlib.Core.Path.{_≡_, refl, ap, _∙_, subst}
+use mathlib.Core.Path.{_≡_, refl, ap, _∙_}
 use mathlib.Core.List.{List, _++_}
 use Prim.Native.Nat.{ℕ, zero, suc, _+_, _-_, _≤_, _<_}
 use native.Mathlib.Omega.{arith}
 use lib.Ieee.{Float, nan}
-use lib.ListN.{length, getD, set, take, drop, length-set, take-append-drop, List·getD-append}
-use lib.Seq.{set-append-left, drop-at, length-take-le}
+use lib.ListN.{length, getD, set, length-set, List·getD-append}
+use lib.Seq.{set-append-left}
 use Rattle.numeric.specs.Turns.{turns-beside}
 use Rattle.numeric.specs.Holds.{holds-same}
 use Rattle.numeric.specs.Tabulate.{tabulate-same}
 use Rattle.mixing.specs.Limits.{maxRounds}
 use Rattle.mixing.specs.Round.{Walk, joins, groupTemp, heatTerm, volumeTerm, fill, pair, oneRound}
 use Rattle.mixing.specs.Rearrange.{Mixing, sorted, unsorted, rises, isSorted, rounds, rearrange}
-use Rattle.mixing.specs.Mix.{tempsOf}
 use Rattle.mixing.proofs.Group.{joined, parted, pair-bottom}
-use Rattle.mixing.proofs.Length.{pair-length, rearrange-length}
+use Rattle.mixing.proofs.Length.{pair-length}
 
 -- the layers that a mixing leaves, with more places after them
 abbrev pub followedBy : List Float → Mixing → Mixing
@@ -97,16 +95,3 @@ module _ (n : ℕ) (vol vol′ ys : List Float) (v : SameBelow n vol vol′) whe
   pub rearrange-first : (xs : List Float) → 1 ≤ n → length xs ≡ n → rearrange n vol′ (xs ++ ys) ≡ followedBy ys (rearrange n vol xs)
   unfolding rearrange
   rearrange-first xs l e = rounds-first (maxRounds n) false 0 xs l e
-
-past : (n : ℕ) (old xs ys : List Float) (m : Mixing) → drop n old ≡ ys → length xs ≡ n → length (tempsOf xs m) ≡ length xs → drop n (tempsOf old (followedBy ys m)) ≡ ys
-past n old xs ys (sorted us k) o e l = drop-at us ys n (l ∙ e)
-past n old xs ys unsorted o e l = o
-
--- so the places past the layers are as they were
-pub rearrange-past : (n : ℕ) (vol temps : List Float) → 1 ≤ n → n ≤ length temps → drop n (tempsOf temps (rearrange n vol temps)) ≡ drop n temps
-rearrange-past n vol temps l h =
-    let xs = take n temps in
-    let ys = drop n temps in
-    let e = length-take-le n temps h in
-    let whole : rearrange n vol temps ≡ followedBy ys (rearrange n vol xs) = subst (λ (t : List Float). rearrange n vol t ≡ followedBy ys (rearrange n vol xs)) (take-append-drop n temps) (rearrange-first n vol vol ys (λ j u. refl) xs l e) in
-    rw whole (past n temps xs ys (rearrange n vol xs) refl e (rearrange-length n vol xs))

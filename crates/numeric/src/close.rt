@@ -1,6 +1,5 @@
 // Close, narrow and wide.
 ghost use mathlib.Core.Path.{_≡_};
-ghost use Rattle.numeric.specs.Double.{relative-tolerance, narrow-tolerance, wide-tolerance};
 ghost use Rattle.numeric.specs.Close.{magnitude, infinite, within, close, narrowClose, wideClose};
 
 pub fn magnitude_of(x: f64) -> f64

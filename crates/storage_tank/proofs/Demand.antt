@@ -11,7 +11,7 @@ use lib.ListN.{length, getD, take, replicate}
 use lib.Ieee.Fits.{and-l, and-r, and-i, eq→eqb}
 use lib.Ieee.Bits.{is-true}
 use Rattle.numeric.specs.Double.{zero-f}
-use Rattle.numeric.specs.Tabulate.{tabulate, tabulate-same}
+use Rattle.numeric.specs.Tabulate.{tabulate, at-tabulate, past-tabulate, tabulate-same}
 use Rattle.draw_off.specs.Event.{Event}
 use Rattle.heating.specs.SwitchLaws.{latched}
 use Rattle.storage_tank.specs.declared.Heater.{Heater}
@@ -32,7 +32,7 @@ use Rattle.storage_tank.specs.Members.{All}
 use Rattle.storage_tank.specs.Course.{accepted, numberOf}
 use Rattle.storage_tank.specs.Demand.{InTurn, OrderedOrNine, EventOrderedOrNine, passed, suppliedIn, RightlySupplied, noWork, noAnswer, noCall, OnSince, lastTank, tankOf, holding, CourseOf, AsGiven, FittedAsGiven, Demand3, Promises}
 use Rattle.storage_tank.proofs.Latch.{latchedBy, latched-since}
-use Rattle.storage_tank.proofs.Members.{any, any→Some, Some→any, all-map, all-both, at-tabulate, past-tabulate}
+use Rattle.storage_tank.proofs.Members.{any, any→Some, Some→any, all-map, all-both}
 use Rattle.storage_tank.proofs.Order.{in-working-order}
 use Rattle.storage_tank.proofs.Steps.{Reach, Meets, Law, ofHeater, began, ended, nothing-latched}
 use Rattle.storage_tank.proofs.TurnFacts.{Right}

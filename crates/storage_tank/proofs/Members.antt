@@ -1,15 +1,13 @@
--- Proves facts on lists that demand 3's proof cites: of all members and of some, of numbers in a list, and of tabulated lists.
-use mathlib.Core.Path.{_≡_, refl, sym, ap, _∙_, subst}
+-- Proves facts on lists that demand 3's proof cites: of all members and of some, and of numbers in a list.
+use mathlib.Core.Path.{_≡_, refl, sym, subst}
 use mathlib.Core.Logic.{_⊎_, inl, inr, _≢_}
 use mathlib.Core.List.{List, [], _∷_, _++_}
 use mathlib.Core.Bool.{Bool, true, false, _||_, cond}
 use Prim.Native.Nat.{ℕ, zero, suc, _+_, _<_, _≤_}
 use native.Mathlib.Omega.{arith}
 use native.Mathlib.Decide.{ℕ-discrete}
-use native.Mathlib.Nat.{le-of-suc-le-suc, not-suc-le-zero}
 use lib.Arith.{lt-of-le-ne}
 use lib.Dec.{T}
-use lib.ListN.{length, getD}
 use Rattle.numeric.specs.Tabulate.{tabulate}
 use Rattle.working_order.specs.Order.{indices}
 use Rattle.storage_tank.specs.Members.{All, Some, Distinct}
@@ -105,28 +103,6 @@ in-left x (z ∷ xs) ys (inr i) = inr (in-left x xs ys i)
 pub in-right : (x : ℕ) (xs ys : List ℕ) → In x ys → In x (xs ++ ys)
 in-right x [] ys i = i
 in-right x (z ∷ xs) ys i = inr (in-right x xs ys i)
-
--- ---- tabulated lists
-
-pub length-tabulate : {A : Type 0} (g : ℕ → A) (n i : ℕ) → length (tabulate g n i) ≡ n
-unfolding tabulate
-length-tabulate g zero i = refl
-length-tabulate g (suc n) i = ap suc (length-tabulate g n (i + 1))
-
-pub at-tabulate-from : {A : Type 0} (g : ℕ → A) (n i h : ℕ) (d : A) → h < n → getD (tabulate g n i) h d ≡ g (i + h)
-unfolding tabulate
-at-tabulate-from g zero i h d l = absurd (not-suc-le-zero l)
-at-tabulate-from g (suc n) i zero d l = ap g (omega arith)
-at-tabulate-from g (suc n) i (suc h) d l = at-tabulate-from g n (i + 1) h d (le-of-suc-le-suc l) ∙ ap g (omega arith)
-
-pub at-tabulate : {A : Type 0} (g : ℕ → A) (n h : ℕ) (d : A) → h < n → getD (tabulate g n 0) h d ≡ g h
-at-tabulate g n h d l = at-tabulate-from g n 0 h d l ∙ ap g (omega arith)
-
-pub past-tabulate : {A : Type 0} (g : ℕ → A) (n i h : ℕ) (d : A) → n ≤ h → getD (tabulate g n i) h d ≡ d
-unfolding tabulate
-past-tabulate g zero i h d l = refl
-past-tabulate g (suc n) i zero d l = absurd (not-suc-le-zero l)
-past-tabulate g (suc n) i (suc h) d l = past-tabulate g n (i + 1) h d (le-of-suc-le-suc l)
 
 -- ---- the numbers from i on
 

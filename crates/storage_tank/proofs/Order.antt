@@ -8,7 +8,7 @@ use native.Mathlib.Omega.{arith}
 use lib.Dec.{T}
 use lib.ListN.{length, getD}
 use lib.Ieee.{le}
-use Rattle.numeric.specs.Tabulate.{tabulate}
+use Rattle.numeric.specs.Tabulate.{tabulate, length-tabulate, at-tabulate}
 use Rattle.storage_tank.specs.declared.Heater.{Heater}
 use Rattle.storage_tank.specs.declared.TankDesign.{TankDesign}
 use Rattle.storage_tank.specs.Fixed.{Fixed, placed, noHeater, notPlaced, placedHeaters, heaterOf, fixedOf}
@@ -16,7 +16,7 @@ use Rattle.working_order.specs.Order.{indices, insert, insertionSort}
 use Rattle.storage_tank.specs.Order.{comesBefore, workingOrder}
 use Rattle.storage_tank.specs.Members.{All, Distinct, ChainFrom, Chain}
 use Rattle.storage_tank.specs.Course.{positionOf, WorkedBefore, InWorkingOrder}
-use Rattle.storage_tank.proofs.Members.{by-cond, In, length-tabulate, at-tabulate, numbers-above, numbers-distinct, indices-below, in-indices}
+use Rattle.storage_tank.proofs.Members.{by-cond, In, numbers-above, numbers-distinct, indices-below, in-indices}
 
 -- ---- insertion sort, for any test
 

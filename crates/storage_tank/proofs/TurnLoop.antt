@@ -8,7 +8,7 @@ use native.Mathlib.Numerals.{add-one}
 use lib.ListN.{getD, length, take, length-take, drop-of-length-le}
 use lib.Seq.{slice, slice-cons}
 use lib.Ieee.{Float, nan}
-use Rattle.numeric.specs.Tabulate.{tabulate}
+use Rattle.numeric.specs.Tabulate.{tabulate, at-tabulate}
 use Rattle.numeric.specs.Whole.{layerOf}
 use Rattle.cylinder.specs.declared.Cylinder.{Cylinder}
 use Rattle.cylinder.specs.Layers.{layerVolumes}
@@ -19,14 +19,12 @@ use Rattle.working_order.specs.Order.{maxHeaters, notAbove, risingOrder}
 use Rattle.working_order.proofs.Same.{rising-same}
 use Rattle.storage_tank.specs.declared.Heater.{Heater}
 use Rattle.storage_tank.specs.declared.Setting.{Setting}
-use Rattle.storage_tank.specs.declared.Step.{Step}
 use Rattle.storage_tank.specs.declared.turns.Heated.{Heated}
 use Rattle.storage_tank.specs.Fixed.{Placed, Fixed, noHeater, placedHeaters, heaterOf}
 use Rattle.storage_tank.specs.Order.{comesBefore, workingOrder}
 use Rattle.storage_tank.specs.Checks.{noSetting}
 use Rattle.storage_tank.specs.Work.{Progress, Turn, End, refused, done, Work, resume, andThen, endBy, turnOf, afterTurn, heaterTurn, turns}
 use Rattle.storage_tank.specs.Lent.{immersion, settingsOnly, afterHeat, TurnWorked, progressOf}
-use Rattle.storage_tank.proofs.Members.{at-tabulate}
 use Rattle.storage_tank.proofs.Order.{many-placed, placed-at}
 
 -- ---- what follows an end by a number

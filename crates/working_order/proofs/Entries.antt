@@ -7,7 +7,7 @@ use native.Mathlib.Omega.{arith}
 use lib.ListN.{length, getD, take}
 use lib.Seq.{getD-take}
 use lib.Ieee.{Float}
-use Rattle.numeric.specs.Tabulate.{tabulate}
+use Rattle.numeric.specs.Tabulate.{tabulate, length-tabulate}
 use Rattle.working_order.specs.Order.{indices, insert, insertionSort, notAbove, risingOrder}
 
 -- each entry is below n
@@ -50,11 +50,6 @@ module _ (before : ℕ → ℕ → Bool) where
   sort-below n [] none = none
   sort-below n (x ∷ xs) (more l b) = insert-below n x (insertionSort before xs) l (sort-below n xs b)
 
-pub indices-length : (k i : ℕ) → length (tabulate (λ (j : ℕ). j) k i) ≡ k
-unfolding tabulate
-indices-length zero i = refl
-indices-length (suc k) i = ap suc (indices-length k (i + 1))
-
 pub indices-below : (n k i : ℕ) → i + k ≤ n → Below n (tabulate (λ (j : ℕ). j) k i)
 unfolding tabulate
 indices-below n zero i h = none
@@ -63,12 +58,12 @@ indices-below n (suc k) i h = more {x = i} (omega arith) (indices-below n k (i +
 -- the laws: as many entries as heaters, each the number of one of them
 pub rising-length : (positions : List Float) (n : ℕ) → length (risingOrder positions n) ≡ n
 unfolding risingOrder
-rising-length positions n = sort-length (notAbove positions) (indices n) ∙ indices-length n 0
+rising-length positions n = sort-length (notAbove positions) (indices n) ∙ length-tabulate (λ (j : ℕ). j) n 0
 
 pub rising-below : (positions : List Float) (n k : ℕ) → k < n → getD (risingOrder positions n) k 0 < n
 unfolding risingOrder
 rising-below positions n k h =
-    let e : length (insertionSort (notAbove positions) (indices n)) ≡ n = sort-length (notAbove positions) (indices n) ∙ indices-length n 0 in
+    let e = rising-length positions n in
     below-at n (insertionSort (notAbove positions) (indices n)) (sort-below (notAbove positions) n (indices n) (indices-below n n 0 (omega arith))) k (omega arith)
 
 -- and so in an array whose first n places hold it

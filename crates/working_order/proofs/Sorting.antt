@@ -7,9 +7,9 @@ use native.Mathlib.Nat.{le-refl, sub-zero}
 use native.Mathlib.Omega.{arith}
 use lib.ListN.{length, take}
 use lib.Seq.{slice, slice-empty, getD-drop, getD-take}
-use Rattle.numeric.specs.Tabulate.{tabulate}
+use Rattle.numeric.specs.Tabulate.{tabulate, length-tabulate}
 use Rattle.working_order.specs.Order.{maxHeaters, indices, insert, insertionSort}
-use Rattle.working_order.proofs.Entries.{below-at, sort-length, sort-below, indices-length, indices-below}
+use Rattle.working_order.proofs.Entries.{below-at, sort-length, sort-below, indices-below}
 use Rattle.working_order.proofs.Insert.{NumbersFrom}
 
 module _ (before : ℕ → ℕ → Bool) (n : ℕ) where
@@ -32,7 +32,7 @@ module _ (before : ℕ → ℕ → Bool) (n : ℕ) where
   pub sorted-numbers : (x : ℕ) (order : List ℕ) → Sorted x order → NumbersFrom x n order
   sorted-numbers x order r k h u =
       let e : x + (k - x) ≡ k = omega arith in
-      let l : length (insertionSort before (from x)) ≡ n - x = sort-length before (from x) ∙ indices-length (n - x) x in
+      let l : length (insertionSort before (from x)) ≡ n - x = sort-length before (from x) ∙ length-tabulate (λ (j : ℕ). j) (n - x) x in
       let b = below-at n (insertionSort before (from x)) (sort-below before n (from x) (indices-below n (n - x) x (omega arith))) (k - x) (omega arith) in
       rw (← r .same, getD-drop x (take n order) (k - x) 0, e, getD-take n order k 0 u) at b
 

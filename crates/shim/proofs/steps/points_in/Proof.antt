@@ -1,6 +1,5 @@
 -- `steps::points_in` meets its contract (01, Tank): the four cases of set points.
 use Rattle.shim.specs.Steps.{pointsIn}
-use borrow.Author.Needs.{needs}
 use Rattle.shim.proofs.steps.points_in.Statement.{statement}
 use Rattle.shim.proofs.steps.points_in.Tie as tie
 
