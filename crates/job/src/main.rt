@@ -1,37 +1,39 @@
 // Reads a job of at most 65,536 bytes from standard input and prints its lines, one write for those of a record.
 ghost use mathlib.Core.Path.{_≡_};
-ghost use Prim.Native.Nat.{_<_};
-ghost use Rattle.job_run.specs.Job.{turn};
+ghost use Prim.Native.Nat.{_≤_, _<_};
+ghost use lib.ListN.{length};
+ghost use Rattle.job_run.specs.Job.{turn, jobRun, jobText};
 use job_run::Job;
+use job_run::Printed;
 use libc::STDIN_FILENO;
 use libc::STDOUT_FILENO;
 
-// A record takes at least 16 bytes, so there are fewer records, and fewer steps, than bytes.
-const MAX_BYTES: usize = 65536;
-
 // The next record: its lines in one write, and the job after it.
-fn print_record(bytes: &[u8], job: Job) -> Job
+fn print_record(bytes: &[u8], job: Job) -> Printed
     requires { ⌜ job .steps < 65536 ⌝ }
-    ensures { λ r. ⌜ r ≡ turn (now (bytes .entry)) job .job ⌝ }
+    ensures { λ r. ⌜ (r .job ≡ turn (now (bytes .entry)) job .job) × (r .length ≡ length (turn (now (bytes .entry)) job .text)) × (r .length ≤ 1500) ⌝ }
 {
     let mut lines = io::buffer();
     let p = job_run::record::next_record(&mut lines, bytes, job);
     let n = p.length;
     io::write_all(STDOUT_FILENO, &lines[..n]);
-    let next = p.job;
-    next
+    p
 }
 
-fn run(bytes: &[u8]) {
+// All records, until the job has ended. The writes cannot be spoken of: the answer is where the job ended and how many bytes were handed to them.
+fn run(bytes: &[u8]) -> Printed
+    requires { ⌜ length (now bytes) ≤ 65536 ⌝ }
+    ensures { λ r. ⌜ (r .job ≡ jobRun (now (bytes .entry)) .job) × (r .length ≡ length (jobText (now (bytes .entry)))) ⌝ }
+{
     let mut job = job_run::start::start();
-    let mut turns = MAX_BYTES;
-    while 0 < turns {
-        turns -= 1;
-        if job.ended {
-            return;
-        }
-        job = print_record(bytes, job);
+    let mut length = 0;
+    while !job.ended {
+        let p = print_record(bytes, job);
+        let next = p.job;
+        job = next;
+        length += p.length;
     }
+    Printed { job, length }
 }
 
 fn main() {

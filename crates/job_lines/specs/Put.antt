@@ -1,11 +1,11 @@
 -- States what a buffer holds after a text is put at a place of it, as far as it fits (01, Job: the lines), and that texts put one after the other are one text.
-use Prim.Native.Nat.{ℕ, suc, _+_}
+use Prim.Native.Nat.{ℕ, suc, _+_, _≤_}
 use native.Mathlib.Omega.{arith}
 use native.Mathlib.Nat.{add-zero}
 use mathlib.Core.Path.{_≡_, refl, sym, ap, _∙_}
 use mathlib.Core.List.{List, [], _∷_, _++_}
 use lib.ListN.{length, take, drop, set, length-append}
-use lib.Seq.{sets, length-sets, take-nil}
+use lib.Seq.{sets, length-sets, take-nil, take-all, take-at}
 
 -- the text as far as it fits, from the first place on, and what the buffer held after it
 abbrev pub written : List ℕ → List ℕ → List ℕ
@@ -54,3 +54,7 @@ put-first {b} {t} p = (let e = p .ends in omega arith, p .stands ∙ sets-writte
 
 pub written-nothing : (b : List ℕ) → written b [] ≡ b
 written-nothing b = rw take-nil
+
+-- a text that fits stands first
+pub written-first : (b t : List ℕ) → length t ≤ length b → take (length t) (written b t) ≡ t
+written-first b t l = rw (take-all (length b) t l) (take-at t (drop (length t) b) (length t) refl)

@@ -93,3 +93,10 @@ module _ (s : List ℕ) (at : ℕ) (tank : Bool) (heaters : ℕ) (step : Bool) w
   well-formed-number r (tank-record h t n p) = refl
   well-formed-number r (heater-record h t n p b) = refl
   well-formed-number r (step-record h t n b) = refl
+
+  -- a record takes 16 bytes at least, and all of them are there
+  pub well-formed-moves : (r : Reading) → WellFormed s at tank heaters step r → (at + 16 ≤ r .next) × (r .next ≤ length s)
+  unfolding stepReadingAt
+  well-formed-moves r (tank-record h t n p) = let l = h .there in (omega arith, omega arith)
+  well-formed-moves r (heater-record h t n p b) = let l = h .there in (omega arith, omega arith)
+  well-formed-moves r (step-record h t n b) = let e = h .sized in let l = h .there in (omega arith, omega arith)

@@ -1,2 +1,4 @@
 -- The laws of `job_run`.
-pub mod Counts
+pub mod Moves
+pub mod Ends
+pub mod Rest

@@ -134,12 +134,20 @@ turn bytes j = turnOf bytes j (readingOf bytes j) (readingOf bytes j .content)
 
 -- ---- the whole job
 
--- what the records from here on print, for so many of them at most
-unfoldable pub jobFrom : ℕ → Bool → List ℕ → Job → List ℕ
-jobFrom zero ended bytes j = []
-jobFrom (suc k) true bytes j = []
-jobFrom (suc k) false bytes j = let t = turn bytes j in t .text ++ jobFrom k (t .job .ended) bytes (t .job)
+-- one turn, then what follows it
+abbrev pub followed : Turn → Turn → Turn
+followed t u = record { job = u .job; text = t .text ++ u .text }
 
--- all that a job prints: each record but the last moves the position, so there are no more turns than bytes, and one
-unfoldable pub jobText : List ℕ → List ℕ
-jobText bytes = jobFrom (length bytes + 1) false bytes startJob
+-- the records from here on, so many at most: the job after them, and all that they print
+unfoldable pub jobFrom : ℕ → Bool → List ℕ → Job → Turn
+jobFrom zero ended bytes j = record { job = j; text = [] }
+jobFrom (suc k) true bytes j = record { job = j; text = [] }
+jobFrom (suc k) false bytes j = let t = turn bytes j in followed t (jobFrom k (t .job .ended) bytes (t .job))
+
+-- the whole job: each record but the last moves the position, so there are no more turns than bytes, and one
+unfoldable pub jobRun : List ℕ → Turn
+jobRun bytes = jobFrom (length bytes + 1) false bytes startJob
+
+-- all that a job prints
+abbrev pub jobText : List ℕ → List ℕ
+jobText bytes = jobRun bytes .text

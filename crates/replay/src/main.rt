@@ -1,7 +1,10 @@
 // Runs the stored jobs through the functions that the program `job` runs, and holds every line against the Rust's.
 // Standard input is a case after another: a 4-byte length and a job, then a 4-byte length and the lines that it must print.
-ghost use Prim.Native.Nat.{_<_};
-ghost use lib.ListN.{length};
+ghost use mathlib.Core.Path.{_≡_};
+ghost use Prim.Native.Nat.{_≤_};
+ghost use lib.ListN.{length, drop};
+ghost use Rattle.job_run.specs.Job.{jobText};
+ghost use Rattle.replay.specs.Same.{sameText, beginsWith};
 use libc::STDIN_FILENO;
 use libc::STDOUT_FILENO;
 
@@ -15,27 +18,22 @@ struct Tally {
     ended: bool,
 }
 
-// A place in the stored lines, past text that agrees with them.
-enum Place {
-    At(usize),
-    Differs,
-}
-
-fn place_after(stored: &[u8], at: usize, text: &[u8]) -> Place {
-    if stored.len() < at {
-        return Place::Differs;
-    }
-    if stored.len() - at < text.len() {
-        return Place::Differs;
-    }
+// The stored lines go on with this text.
+fn begins_with(stored: &[u8], at: usize, text: &[u8]) -> bool
+    requires { ⌜ at ≤ length (now stored) ⌝ }
+    ensures { λ r. ⌜ r ≡ beginsWith (drop at (now (stored .entry))) (now (text .entry)) ⌝ }
+{
     let mut i = 0;
     while i < text.len() {
+        if at + i >= stored.len() {
+            return false;
+        }
         if stored[at + i] != text[i] {
-            return Place::Differs;
+            return false;
         }
         i += 1;
     }
-    Place::At(at + text.len())
+    true
 }
 
 fn line_count(stored: &[u8]) -> usize {
@@ -50,33 +48,25 @@ fn line_count(stored: &[u8]) -> usize {
     n
 }
 
-// The lines of the job's records are the stored ones, all of them.
-fn is_same(bytes: &[u8], stored: &[u8]) -> bool {
+// What the job prints is the stored lines, all of them and no more.
+fn is_same(bytes: &[u8], stored: &[u8]) -> bool
+    requires { ⌜ length (now bytes) ≤ 65536 ⌝ }
+    ensures { λ r. ⌜ r ≡ sameText (now (stored .entry)) (jobText (now (bytes .entry))) ⌝ }
+{
     let mut job = job_run::start::start();
     let mut at = 0;
-    let mut turns = MAX_BYTES;
-    while 0 < turns {
-        turns -= 1;
-        if job.ended {
-            return at == stored.len();
-        }
-        if job.steps >= MAX_BYTES {
-            return false;
-        }
+    while !job.ended {
         let mut lines = io::buffer();
         let p = job_run::record::next_record(&mut lines, bytes, job);
         let n = p.length;
-        if n > lines.len() {
+        if !begins_with(stored, at, &lines[..n]) {
             return false;
         }
-        let Place::At(next) = place_after(stored, at, &lines[..n]) else {
-            return false;
-        };
-        at = next;
-        let after = p.job;
-        job = after;
+        let next = p.job;
+        job = next;
+        at += n;
     }
-    false
+    at == stored.len()
 }
 
 // A 4-byte length, or more than any part may have where there is none.
@@ -96,7 +86,9 @@ fn ended(t: Tally) -> Tally {
 }
 
 // The case of a job whose lines are read into `stored`.
-fn judge(bytes: &[u8], stored: &mut [u8], t: Tally) -> Tally {
+fn judge(bytes: &[u8], stored: &mut [u8], t: Tally) -> Tally
+    requires { ⌜ length (now bytes) ≤ 65536 ⌝ }
+{
     io::read_full(STDIN_FILENO, stored);
     let n = line_count(stored) as u64;
     let mut r = t;
@@ -109,7 +101,9 @@ fn judge(bytes: &[u8], stored: &mut [u8], t: Tally) -> Tally {
 }
 
 // The case of a job that is read into `bytes`.
-fn read_case(bytes: &mut [u8], t: Tally) -> Tally {
+fn read_case(bytes: &mut [u8], t: Tally) -> Tally
+    requires { ⌜ length (now bytes) ≤ 65536 ⌝ }
+{
     io::read_full(STDIN_FILENO, bytes);
     let size = next_size();
     if size > MAX_BYTES {

@@ -1,42 +1,55 @@
--- `run` is safe and ends (01, Job): the turns left fall, and each counts at most one step.
-use mathlib.Core.Path.{ap}
-use Prim.Native.Nat.{_+_, _≤_}
+-- `run` meets its contract (01, Job): what is printed so far and what is left of the job are the whole of it, and each turn leaves fewer.
 use native.Mathlib.Omega.{arith}
-use Rattle.job_run.specs.declared.Job.{Job}
-use Rattle.job_run.proofs.Counts.{turn-steps}
+use lib.ListN.{length}
+use Rattle.job_run.proofs.Ends.{turnsLeft, turn-shortens}
+use Rattle.job_run.proofs.Rest.{Printing, printing-start, printing-turn, printing-end}
 use borrow.Author.Needs.{needs}
+use borrow.Author.Tests.{not-true, not-false}
 use Rattle.job.proofs.run.Statement.{statement}
 use Rattle.job.proofs.run.Tie as tie
 
 abbrev Inv-loop : tie.InvT-loop
-Inv-loop bytes job₀ turns₀ job turns = job .steps + turns ≤ 65536
+Inv-loop bytes job₀ length₀ job n = Printing bytes job n
 
 abbrev μ-loop : tie.MeasureT-loop
-μ-loop bytes job₀ turns₀ job turns = turns
+μ-loop bytes job₀ length₀ job n = turnsLeft (length bytes) (job .ended) (job .at)
 
 start-requires : tie.Need-start-requires Inv-loop μ-loop
 start-requires c κs = search needs
 
 loop-holds : tie.Need-loop-holds Inv-loop μ-loop
-loop-holds c = omega (arith, ap (λ (j : Job). j .steps) (c .start .ensures))
-
-sub-turns : tie.Need-sub-turns Inv-loop μ-loop
-sub-turns c = search needs
-
-returns : tie.Need-returns Inv-loop μ-loop
-returns c = search needs
+loop-holds c = rw (c .start .ensures) (printing-start (c .before .before .args .bytes .now))
 
 print-record-requires : tie.Need-print-record-requires Inv-loop μ-loop
-print-record-requires c κs = search needs
+print-record-requires c κs =
+    let w = c .before .before .loop .inv .within in
+    let counted = w .counted in
+    let placed = w .placed in
+    omega (arith, c .before .before .before .before .before .pre)
+
+add-length : tie.Need-add-length Inv-loop μ-loop
+add-length c =
+    let few = c .before .before .before .before .before .loop .inv .few in
+    let short = c .before .before .print-record .ensures .2 in
+    omega (arith, c .before .before .before .before .before .before .before .before .pre)
 
 loop-less : tie.Need-loop-less Inv-loop μ-loop
-loop-less c = search needs
+loop-less c =
+    let at = c .before .before .before .before .before .loop in
+    rw (c .before .before .print-record .ensures .0)
+    (turn-shortens (c .before .before .before .before .before .before .before .before .args .bytes .now) (at .job) (at .inv .within) (not-true _ (c .before .before .before .if1 .taken)))
 
 loop-again : tie.Need-loop-again Inv-loop μ-loop
-loop-again c = omega (arith, turn-steps (c .before .before .before .before .before .before .args .bytes .now) (c .before .before .before .loop .job), ap (λ (j : Job). j .steps) (c .print-record .ensures))
+loop-again c =
+    let at = c .before .before .before .before .before .loop in
+    let p = c .before .before .print-record in
+    rw (p .ensures .0)
+    (printing-turn (c .before .before .before .before .before .before .before .before .args .bytes .now) (at .job) (at .length) (p .result .length) (at .inv) (not-true _ (c .before .before .before .if1 .taken)) (p .ensures .1) (p .ensures .2))
 
-returns-2 : tie.Need-returns-2 Inv-loop μ-loop
-returns-2 c = search needs
+returns : tie.Need-returns Inv-loop μ-loop
+returns c =
+    let at = c .before .before .loop in
+    printing-end (c .before .before .before .before .before .args .bytes .now) (at .job) (at .length) (at .inv) (not-false _ (c .if1 .left))
 
 pub run-spec : {M : Type 1} → statement M
 run-spec =
@@ -46,9 +59,8 @@ run-spec =
     μ-loop
     start-requires
     loop-holds
-    sub-turns
-    returns
     print-record-requires
+    add-length
     loop-less
     loop-again
-    returns-2)
+    returns)

@@ -1,31 +1,27 @@
--- `is_same` is safe and ends: the turns left fall.
-use mathlib.Core.Path.{sym}
-use Prim.Native.Nat.{_≤_}
+-- `is_same` meets its contract (01, Job): what is left of the stored lines, against what is left of the job, decides, and each turn leaves fewer.
+use mathlib.Core.Path.{sym, _∙_}
+use native.Mathlib.Omega.{arith}
+use lib.ListN.{length}
 use lib.Seq.{length-take-le}
+use Rattle.job_lines.specs.Put.{written-first}
+use Rattle.job_run.proofs.Ends.{turnsLeft, turn-shortens}
+use Rattle.replay.proofs.Comparing.{Comparing, comparing-start, comparing-turn, comparing-differs, comparing-end, compared}
 use borrow.Author.Needs.{needs}
+use borrow.Author.Tests.{not-true, not-false}
 use Rattle.replay.proofs.is_same.Statement.{statement}
 use Rattle.replay.proofs.is_same.Tie as tie
 
 abbrev Inv-loop : tie.InvT-loop
-Inv-loop bytes stored job₀ at₀ turns₀ job at turns = turns ≤ 65536
+Inv-loop bytes stored job₀ at₀ job at = Comparing bytes stored job at
 
 abbrev μ-loop : tie.MeasureT-loop
-μ-loop bytes stored job₀ at₀ turns₀ job at turns = turns
+μ-loop bytes stored job₀ at₀ job at = turnsLeft (length bytes) (job .ended) (job .at)
 
 start-requires : tie.Need-start-requires Inv-loop μ-loop
 start-requires c κs = search needs
 
 loop-holds : tie.Need-loop-holds Inv-loop μ-loop
-loop-holds c = search needs
-
-sub-turns : tie.Need-sub-turns Inv-loop μ-loop
-sub-turns c = search needs
-
-returns : tie.Need-returns Inv-loop μ-loop
-returns c = search needs
-
-returns-2 : tie.Need-returns-2 Inv-loop μ-loop
-returns-2 c = search needs
+loop-holds c = rw (c .start .ensures) (comparing-start (c .before .before .before .args .bytes .now) (c .before .before .before .args .stored .now))
 
 buffer-requires : tie.Need-buffer-requires Inv-loop μ-loop
 buffer-requires c κs = search needs
@@ -34,37 +30,52 @@ slice-aggregate-next-record : tie.Need-slice-aggregate-next-record Inv-loop μ-l
 slice-aggregate-next-record c = search needs
 
 next-record-requires : tie.Need-next-record-requires Inv-loop μ-loop
-next-record-requires c κs = search needs
-
-returns-3 : tie.Need-returns-3 Inv-loop μ-loop
-returns-3 c = search needs
+next-record-requires c κs =
+    let w = c .before .before .before .before .loop .inv .within in
+    let counted = w .counted in
+    let placed = w .placed in
+    omega (arith, c .before .before .before .before .before .before .before .before .pre)
 
 array-share-prefix-lines : tie.Need-array-share-prefix-lines Inv-loop μ-loop
 array-share-prefix-lines c = search needs
 
-slice-aggregate-place-after : tie.Need-slice-aggregate-place-after Inv-loop μ-loop
-slice-aggregate-place-after c = sym (length-take-le _ _ (search needs))
+slice-aggregate-begins-with : tie.Need-slice-aggregate-begins-with Inv-loop μ-loop
+slice-aggregate-begins-with c = sym (length-take-le _ _ (search needs))
 
-place-after-requires : tie.Need-place-after-requires Inv-loop μ-loop
-place-after-requires c κs = search needs
+begins-with-requires : tie.Need-begins-with-requires Inv-loop μ-loop
+begins-with-requires c κs = c .before .before .before .before .before .before .before .loop .inv .placed
 
-enum-known-next : tie.Need-enum-known-next Inv-loop μ-loop
-enum-known-next c = search needs
+returns : tie.Need-returns Inv-loop μ-loop
+returns c =
+    let at = c .before .before .before .before .before .before .before .before .before .loop in
+    let a = c .before .before .before .before .before .before .before .before .before .before .before .before .before .args in
+    let p = c .before .before .before .before .next-record in
+    sym (comparing-differs (a .bytes .now) (a .stored .now) (at .job) (at .at) (at .inv) (not-true _ (c .before .before .before .before .before .before .before .if1 .taken)) (compared (c .before .before .before .before .before .before .buffer .result) _ _ _ (p .result .length) _ (p .ensures .prints) (p .ensures .counts) (let short = p .ensures .short in let room = c .before .before .before .before .before .before .buffer .ensures in omega arith) (c .before .begins-with .ensures) ∙ not-true _ (c .if2 .taken)))
 
-enum-told : tie.Need-enum-told Inv-loop μ-loop
-enum-told c = search needs
-
-returns-4 : tie.Need-returns-4 Inv-loop μ-loop
-returns-4 c = search needs
+add-at : tie.Need-add-at Inv-loop μ-loop
+add-at c =
+    let short = c .before .before .before .before .before .next-record .ensures .short in
+    let placed = c .before .before .before .before .before .before .before .before .before .before .loop .inv .placed in
+    omega (arith, c .before .before .before .before .before .before .before .before .before .before .before .before .before .before .good)
 
 loop-less : tie.Need-loop-less Inv-loop μ-loop
-loop-less c = search needs
+loop-less c =
+    let at = c .before .before .before .before .before .before .before .before .before .before .loop in
+    rw (c .before .before .before .before .before .next-record .ensures .goes)
+    (turn-shortens (c .before .before .before .before .before .before .before .before .before .before .before .before .before .before .args .bytes .now) (at .job) (at .inv .within) (not-true _ (c .before .before .before .before .before .before .before .before .if1 .taken)))
 
 loop-again : tie.Need-loop-again Inv-loop μ-loop
-loop-again c = search needs
+loop-again c =
+    let at = c .before .before .before .before .before .before .before .before .before .before .loop in
+    let a = c .before .before .before .before .before .before .before .before .before .before .before .before .before .before .args in
+    let p = c .before .before .before .before .before .next-record in
+    rw (p .ensures .goes, p .ensures .counts)
+    (comparing-turn (a .bytes .now) (a .stored .now) (at .job) (at .at) (at .inv) (not-true _ (c .before .before .before .before .before .before .before .before .if1 .taken)) (compared (c .before .before .before .before .before .before .before .buffer .result) _ _ _ (p .result .length) _ (p .ensures .prints) (p .ensures .counts) (let short = p .ensures .short in let room = c .before .before .before .before .before .before .before .buffer .ensures in omega arith) (c .before .before .begins-with .ensures) ∙ not-false _ (c .before .if2 .left)))
 
-returns-5 : tie.Need-returns-5 Inv-loop μ-loop
-returns-5 c = search needs
+returns-2 : tie.Need-returns-2 Inv-loop μ-loop
+returns-2 c =
+    let at = c .before .before .loop in
+    sym (comparing-end (c .before .before .before .before .before .before .args .bytes .now) (c .before .before .before .before .before .before .args .stored .now) (at .job) (at .at) (at .inv) (not-false _ (c .if1 .left)))
 
 pub is-same-spec : {M : Type 1} → statement M
 is-same-spec =
@@ -74,19 +85,14 @@ is-same-spec =
     μ-loop
     start-requires
     loop-holds
-    sub-turns
-    returns
-    returns-2
     buffer-requires
     slice-aggregate-next-record
     next-record-requires
-    returns-3
     array-share-prefix-lines
-    slice-aggregate-place-after
-    place-after-requires
-    enum-known-next
-    enum-told
-    returns-4
+    slice-aggregate-begins-with
+    begins-with-requires
+    returns
+    add-at
     loop-less
     loop-again
-    returns-5)
+    returns-2)

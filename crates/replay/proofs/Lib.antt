@@ -1,0 +1,3 @@
+-- The laws of `replay`.
+pub mod Same
+pub mod Comparing

@@ -1,0 +1,2 @@
+-- The definitions of `replay`: when two texts are the same.
+pub mod Same
