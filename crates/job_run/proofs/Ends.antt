@@ -4,10 +4,10 @@ use native.Mathlib.Omega.{arith}
 use mathlib.Core.Bool.{Bool, true, false, cond}
 use mathlib.Core.List.{List}
 use mathlib.Core.Logic.{inl, inr}
-use mathlib.Core.Path.{_≡_, refl, sym, _∙_}
+use mathlib.Core.Path.{_≡_, refl}
 use lib.ListN.{length}
 use Rattle.job_run.specs.declared.Job.{Job}
-use Rattle.job_run.specs.Job.{Turn, startJob, turn, jobFrom, jobRun}
+use Rattle.job_run.specs.Job.{Turn, startJob, turn, runFrom, runAll, jobRun}
 use Rattle.job_run.proofs.Moves.{Moves, turn-moves}
 
 -- a job stands within its input of `size` bytes, and has counted no more steps than records can have passed
@@ -22,41 +22,45 @@ turnsLeft size ended at = cond ended 0 (suc (size - at))
 pub start-within : (size : ℕ) → Within size startJob
 start-within size = record { placed = omega arith; counted = omega arith }
 
-module _ (j : Job) (size : ℕ) (w : Within size j) where
-  moved-within : (t : Turn) → Moves j size t → Within size (t .job)
-  moved-within t (inl e) = record { placed = rw (e .1) (w .placed); counted = rw (e .1, e .2) (w .counted) }
-  moved-within t (inr m) = let c = w .counted in let p = m .1 in let q = m .3 in record { placed = m .2; counted = omega arith }
+-- a turn f of any kind that moves as a record does
+module _ (f : Job → Turn) (size : ℕ) (moves : (j : Job) → Moves j size (f j)) (j : Job) (w : Within size j) where
+  pub turn-within : Within size (f j .job)
+  turn-within = go (f j) (moves j)
+    where
+      go : (t : Turn) → Moves j size t → Within size (t .job)
+      go t (inl e) = record { placed = rw (e .1) (w .placed); counted = rw (e .1, e .2) (w .counted) }
+      go t (inr m) = let c = w .counted in let p = m .1 in let q = m .3 in record { placed = m .2; counted = omega arith }
 
-  moved-less : j .ended ≡ false → (t : Turn) → Moves j size t → turnsLeft size (t .job .ended) (t .job .at) < size - j .at + 1
-  moved-less f t (inl e) = rw (e .0) (omega arith)
-  moved-less f t (inr m) = let p = m .1 in let l = m .2 in rw (m .0, f) (omega arith)
-
-module _ (bytes : List ℕ) (j : Job) (w : Within (length bytes) j) where
-  pub turn-within : Within (length bytes) (turn bytes j .job)
-  turn-within = moved-within j (length bytes) w (turn bytes j) (turn-moves j bytes)
-
-  pub turn-less : j .ended ≡ false → turnsLeft (length bytes) (turn bytes j .job .ended) (turn bytes j .job .at) < length bytes - j .at + 1
-  turn-less f = moved-less j (length bytes) w f (turn bytes j) (turn-moves j bytes)
+  pub turn-less : j .ended ≡ false → turnsLeft size (f j .job .ended) (f j .job .at) < size - j .at + 1
+  turn-less e = go (f j) (moves j)
+    where
+      go : (t : Turn) → Moves j size t → turnsLeft size (t .job .ended) (t .job .at) < size - j .at + 1
+      go t (inl e) = rw (e .0) (omega arith)
+      go t (inr m) = let p = m .1 in let l = m .2 in rw (m .0, e) (omega arith)
 
   -- as a loop's measure
-  pub turn-shortens : j .ended ≡ false → turnsLeft (length bytes) (turn bytes j .job .ended) (turn bytes j .job .at) < turnsLeft (length bytes) (j .ended) (j .at)
+  pub turn-shortens : j .ended ≡ false → turnsLeft size (f j .job .ended) (f j .job .at) < turnsLeft size (j .ended) (j .at)
   turn-shortens e = below (j .ended) e (turn-less e)
     where
-      below : (b : Bool) → b ≡ false → {n : ℕ} → n < length bytes - j .at + 1 → n < turnsLeft (length bytes) b (j .at)
-      below b f l = rw f (omega arith)
+      below : (b : Bool) → b ≡ false → {n : ℕ} → n < size - j .at + 1 → n < turnsLeft size b (j .at)
+      below b g l = rw g (omega arith)
 
--- with turns enough, the job after them has ended
-from-ends : (k : ℕ) (ended : Bool) (bytes : List ℕ) (j : Job) → j .ended ≡ ended → Within (length bytes) j → turnsLeft (length bytes) ended (j .at) ≤ k → jobFrom k ended bytes j .job .ended ≡ true
-unfolding jobFrom
-from-ends zero true bytes j e w l = e
-from-ends zero false bytes j e w l = absurd (omega arith)
-from-ends (suc k) true bytes j e w l = e
-from-ends (suc k) false bytes j e w l =
-    let t = turn bytes j in
-    let less = turn-less bytes j w e in
-    from-ends k (t .job .ended) bytes (t .job) refl (turn-within bytes j w) (omega arith)
+module _ (f : Job → Turn) (size : ℕ) (moves : (j : Job) → Moves j size (f j)) where
+  -- with turns enough, the job after them has ended
+  from-ends : (k : ℕ) (ended : Bool) (j : Job) → j .ended ≡ ended → Within size j → turnsLeft size ended (j .at) ≤ k → runFrom f k ended j .job .ended ≡ true
+  unfolding runFrom
+  from-ends zero true j e w l = e
+  from-ends zero false j e w l = absurd (omega arith)
+  from-ends (suc k) true j e w l = e
+  from-ends (suc k) false j e w l =
+      let t = f j in
+      let less = turn-less f size moves j w e in
+      from-ends k (t .job .ended) (t .job) refl (turn-within f size moves j w) (omega arith)
+
+  pub run-ends : runAll f size .job .ended ≡ true
+  unfolding runAll
+  run-ends = from-ends (size + 1) false startJob refl (start-within size) (omega arith)
 
 -- the law
 pub job-ends : (bytes : List ℕ) → jobRun bytes .job .ended ≡ true
-unfolding jobRun
-job-ends bytes = from-ends (length bytes + 1) false bytes startJob refl (start-within (length bytes)) (omega arith)
+job-ends bytes = run-ends (turn bytes) (length bytes) (λ j. turn-moves j bytes)

@@ -139,14 +139,17 @@ abbrev pub followed : Turn → Turn → Turn
 followed t u = record { job = u .job; text = t .text ++ u .text }
 
 -- the records from here on, so many at most: the job after them, and all that they print
-unfoldable pub jobFrom : ℕ → Bool → List ℕ → Job → Turn
-jobFrom zero ended bytes j = record { job = j; text = [] }
-jobFrom (suc k) true bytes j = record { job = j; text = [] }
-jobFrom (suc k) false bytes j = let t = turn bytes j in followed t (jobFrom k (t .job .ended) bytes (t .job))
+unfoldable pub runFrom : (Job → Turn) → ℕ → Bool → Job → Turn
+runFrom f zero ended j = record { job = j; text = [] }
+runFrom f (suc k) true j = record { job = j; text = [] }
+runFrom f (suc k) false j = let t = f j in followed t (runFrom f k (t .job .ended) (t .job))
 
--- the whole job: each record but the last moves the position, so there are no more turns than bytes, and one
-unfoldable pub jobRun : List ℕ → Turn
-jobRun bytes = jobFrom (length bytes + 1) false bytes startJob
+-- a whole input of `size` bytes: each record but the last moves the position, so there are no more turns than bytes, and one
+unfoldable pub runAll : (Job → Turn) → ℕ → Turn
+runAll f size = runFrom f (size + 1) false startJob
+
+abbrev pub jobRun : List ℕ → Turn
+jobRun bytes = runAll (turn bytes) (length bytes)
 
 -- all that a job prints
 abbrev pub jobText : List ℕ → List ℕ

@@ -10,6 +10,7 @@ use lib.Seq.{drop-drop}
 use Rattle.job_lines.specs.Put.{written, written-first}
 use Rattle.job_run.specs.declared.Job.{Job}
 use Rattle.job_run.specs.Job.{Turn, startJob, turn, jobText}
+use Rattle.job_run.proofs.Moves.{turn-moves}
 use Rattle.job_run.proofs.Ends.{Within, start-within, turn-within}
 use Rattle.job_run.proofs.Rest.{restOf, rest-start, rest-ended, rest-turn}
 use Rattle.replay.specs.Same.{sameText, beginsWith}
@@ -19,21 +20,21 @@ use Rattle.replay.proofs.Same.{same-parts, same-end, begins-fits}
 pub record Comparing (bytes stored : List ℕ) (j : Job) (at : ℕ) : Type 0 where
   pub within : Within (length bytes) j
   pub placed : at ≤ length stored
-  pub decides : sameText stored (jobText bytes) ≡ sameText (drop at stored) (restOf bytes j .text)
+  pub decides : sameText stored (jobText bytes) ≡ sameText (drop at stored) (restOf (turn bytes) (length bytes) j .text)
 
 pub comparing-start : (bytes stored : List ℕ) → Comparing bytes stored startJob 0
 comparing-start bytes stored = record {
   within = start-within (length bytes);
   placed = omega arith;
-  decides = ap (λ (t : Turn). sameText stored (t .text)) (sym (rest-start bytes));
+  decides = ap (λ (t : Turn). sameText stored (t .text)) (sym (rest-start (turn bytes) (length bytes)));
 }
 
 module _ (bytes stored : List ℕ) (j : Job) (at : ℕ) (c : Comparing bytes stored j at) where
-  parted : j .ended ≡ false → (b : Bool) → beginsWith (drop at stored) (turn bytes j .text) ≡ b → sameText stored (jobText bytes) ≡ cond b (sameText (drop (length (turn bytes j .text)) (drop at stored)) (restOf bytes (turn bytes j .job) .text)) false
+  parted : j .ended ≡ false → (b : Bool) → beginsWith (drop at stored) (turn bytes j .text) ≡ b → sameText stored (jobText bytes) ≡ cond b (sameText (drop (length (turn bytes j .text)) (drop at stored)) (restOf (turn bytes) (length bytes) (turn bytes j .job) .text)) false
   parted e b h =
       c .decides
-      ∙ ap (λ (t : Turn). sameText (drop at stored) (t .text)) (rest-turn bytes j (c .within) e)
-      ∙ rw h at (same-parts (drop at stored) (turn bytes j .text) (restOf bytes (turn bytes j .job) .text))
+      ∙ ap (λ (t : Turn). sameText (drop at stored) (t .text)) (rest-turn (turn bytes) (length bytes) (λ i. turn-moves i bytes) j (c .within) e)
+      ∙ rw h at (same-parts (drop at stored) (turn bytes j .text) (restOf (turn bytes) (length bytes) (turn bytes j .job) .text))
 
   pub comparing-differs : j .ended ≡ false → beginsWith (drop at stored) (turn bytes j .text) ≡ false → sameText stored (jobText bytes) ≡ false
   comparing-differs e h = parted e false h
@@ -44,7 +45,7 @@ module _ (bytes stored : List ℕ) (j : Job) (at : ℕ) (c : Comparing bytes sto
       let left = length-drop at stored in
       let placed = c .placed in
       record {
-        within = turn-within bytes j (c .within);
+        within = turn-within (turn bytes) (length bytes) (λ i. turn-moves i bytes) j (c .within);
         placed = omega arith;
         decides = rw (drop-drop (length (turn bytes j .text)) at stored) at (parted e true h);
       }
@@ -52,7 +53,7 @@ module _ (bytes stored : List ℕ) (j : Job) (at : ℕ) (c : Comparing bytes sto
   pub comparing-end : j .ended ≡ true → sameText stored (jobText bytes) ≡ eqb at (length stored)
   comparing-end e =
       c .decides
-      ∙ ap (λ (t : Turn). sameText (drop at stored) (t .text)) (rest-ended bytes j e)
+      ∙ ap (λ (t : Turn). sameText (drop at stored) (t .text)) (rest-ended (turn bytes) (length bytes) j e)
       ∙ same-end stored at (c .placed)
 
 -- what the buffer holds first is the record's text, since it fits

@@ -1,6 +1,8 @@
 -- `run` meets its contract (01, Job): what is printed so far and what is left of the job are the whole of it, and each turn leaves fewer.
 use native.Mathlib.Omega.{arith}
 use lib.ListN.{length}
+use Rattle.job_run.specs.Job.{turn}
+use Rattle.job_run.proofs.Moves.{turn-moves}
 use Rattle.job_run.proofs.Ends.{turnsLeft, turn-shortens}
 use Rattle.job_run.proofs.Rest.{Printing, printing-start, printing-turn, printing-end}
 use borrow.Author.Needs.{needs}
@@ -9,7 +11,7 @@ use Rattle.job.proofs.run.Statement.{statement}
 use Rattle.job.proofs.run.Tie as tie
 
 abbrev Inv-loop : tie.InvT-loop
-Inv-loop bytes job₀ length₀ job n = Printing bytes job n
+Inv-loop bytes job₀ length₀ job n = Printing (turn bytes) (length bytes) job n
 
 abbrev μ-loop : tie.MeasureT-loop
 μ-loop bytes job₀ length₀ job n = turnsLeft (length bytes) (job .ended) (job .at)
@@ -18,7 +20,7 @@ start-requires : tie.Need-start-requires Inv-loop μ-loop
 start-requires c κs = search needs
 
 loop-holds : tie.Need-loop-holds Inv-loop μ-loop
-loop-holds c = rw (c .start .ensures) (printing-start (c .before .before .args .bytes .now))
+loop-holds c = rw (c .start .ensures) (printing-start (turn (c .before .before .args .bytes .now)) (length (c .before .before .args .bytes .now)))
 
 print-record-requires : tie.Need-print-record-requires Inv-loop μ-loop
 print-record-requires c κs =
@@ -36,20 +38,23 @@ add-length c =
 loop-less : tie.Need-loop-less Inv-loop μ-loop
 loop-less c =
     let at = c .before .before .before .before .before .loop in
+    let bytes = c .before .before .before .before .before .before .before .before .args .bytes .now in
     rw (c .before .before .print-record .ensures .0)
-    (turn-shortens (c .before .before .before .before .before .before .before .before .args .bytes .now) (at .job) (at .inv .within) (not-true _ (c .before .before .before .if1 .taken)))
+    (turn-shortens (turn bytes) (length bytes) (λ j. turn-moves j bytes) (at .job) (at .inv .within) (not-true _ (c .before .before .before .if1 .taken)))
 
 loop-again : tie.Need-loop-again Inv-loop μ-loop
 loop-again c =
     let at = c .before .before .before .before .before .loop in
     let p = c .before .before .print-record in
+    let bytes = c .before .before .before .before .before .before .before .before .args .bytes .now in
     rw (p .ensures .0)
-    (printing-turn (c .before .before .before .before .before .before .before .before .args .bytes .now) (at .job) (at .length) (p .result .length) (at .inv) (not-true _ (c .before .before .before .if1 .taken)) (p .ensures .1) (p .ensures .2))
+    (printing-turn (turn bytes) (length bytes) (λ j. turn-moves j bytes) (at .job) (at .length) (p .result .length) (at .inv) (not-true _ (c .before .before .before .if1 .taken)) (p .ensures .1) (p .ensures .2))
 
 returns : tie.Need-returns Inv-loop μ-loop
 returns c =
     let at = c .before .before .loop in
-    printing-end (c .before .before .before .before .before .args .bytes .now) (at .job) (at .length) (at .inv) (not-false _ (c .if1 .left))
+    let bytes = c .before .before .before .before .before .args .bytes .now in
+    printing-end (turn bytes) (length bytes) (at .job) (at .length) (at .inv) (not-false _ (c .if1 .left))
 
 pub run-spec : {M : Type 1} → statement M
 run-spec =

@@ -4,6 +4,8 @@ use native.Mathlib.Omega.{arith}
 use lib.ListN.{length}
 use lib.Seq.{length-take-le}
 use Rattle.job_lines.specs.Put.{written-first}
+use Rattle.job_run.specs.Job.{turn}
+use Rattle.job_run.proofs.Moves.{turn-moves}
 use Rattle.job_run.proofs.Ends.{turnsLeft, turn-shortens}
 use Rattle.replay.proofs.Comparing.{Comparing, comparing-start, comparing-turn, comparing-differs, comparing-end, compared}
 use borrow.Author.Needs.{needs}
@@ -62,7 +64,7 @@ loop-less : tie.Need-loop-less Inv-loop μ-loop
 loop-less c =
     let at = c .before .before .before .before .before .before .before .before .before .before .loop in
     rw (c .before .before .before .before .before .next-record .ensures .goes)
-    (turn-shortens (c .before .before .before .before .before .before .before .before .before .before .before .before .before .before .args .bytes .now) (at .job) (at .inv .within) (not-true _ (c .before .before .before .before .before .before .before .before .if1 .taken)))
+    (turn-shortens (turn (c .before .before .before .before .before .before .before .before .before .before .before .before .before .before .args .bytes .now)) (length (c .before .before .before .before .before .before .before .before .before .before .before .before .before .before .args .bytes .now)) (λ j. turn-moves j (c .before .before .before .before .before .before .before .before .before .before .before .before .before .before .args .bytes .now)) (at .job) (at .inv .within) (not-true _ (c .before .before .before .before .before .before .before .before .if1 .taken)))
 
 loop-again : tie.Need-loop-again Inv-loop μ-loop
 loop-again c =
