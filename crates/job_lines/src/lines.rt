@@ -23,14 +23,14 @@ fn at_most(n: usize, most: usize) -> usize
     if n <= most { n } else { most }
 }
 
-fn flag_number(flag: bool) -> usize
+pub fn flag_number(flag: bool) -> usize
     ensures { λ r. ⌜ r ≡ cond flag 1 0 ⌝ }
 {
     if flag { 1 } else { 0 }
 }
 
 // S, the step's index and its number, the line not ended.
-fn put_head(buf: &mut [u8], index: usize, number: u8) -> usize
+pub fn put_head(buf: &mut [u8], index: usize, number: u8) -> usize
     ensures { λ r. ⌜ (Put (now (buf .entry)) 0 (headText index number) (now (buf .exit)) r) × (r ≤ 43) ⌝ }
 {
     let a = put_byte(buf, 0, b'S');

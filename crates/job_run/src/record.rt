@@ -30,7 +30,7 @@ fn refuse(buf: &mut [u8], j: Job, number: u8) -> Printed
 }
 
 // A tank with these heaters, or the refusal of making it.
-fn make_tank(buf: &mut [u8], j: Job, next: usize, design: TankDesign) -> Printed
+pub fn make_tank(buf: &mut [u8], j: Job, next: usize, design: TankDesign) -> Printed
     ensures { λ r. ⌜ Turned (madeTurn j next design) (now (buf .entry)) (now (buf .exit)) r ⌝ }
 {
     let m = StorageTank::new(design);
@@ -47,7 +47,7 @@ fn make_tank(buf: &mut [u8], j: Job, next: usize, design: TankDesign) -> Printed
 }
 
 // A heater more; a ninth is 2.
-fn add_heater(buf: &mut [u8], j: Job, next: usize, h: Heater) -> Printed
+pub fn add_heater(buf: &mut [u8], j: Job, next: usize, h: Heater) -> Printed
     ensures { λ r. ⌜ Turned (heaterTurn j next h) (now (buf .entry)) (now (buf .exit)) r ⌝ }
 {
     let d = j.design;
@@ -78,7 +78,7 @@ fn run_step(buf: &mut [u8], j: Job, next: usize, a: Step) -> Printed
 }
 
 // No record: the input's end, or a refusal.
-fn end_or_refuse(buf: &mut [u8], size: usize, j: Job) -> Printed
+pub fn end_or_refuse(buf: &mut [u8], size: usize, j: Job) -> Printed
     ensures { λ r. ⌜ Turned (endTurn size j) (now (buf .entry)) (now (buf .exit)) r ⌝ }
 {
     if j.at != size {

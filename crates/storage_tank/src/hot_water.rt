@@ -19,7 +19,7 @@ use draw_off::Totals;
 use mixing::limits::MAX_LAYERS;
 
 // Before the first event.
-fn no_totals() -> Totals
+pub fn no_totals() -> Totals
     ensures { λ r. ⌜ r ≡ noTotals ⌝ }
 {
     Totals {

@@ -54,7 +54,7 @@ pub fn no_turns(flags: [bool; MAX_HEATERS]) -> Heated
 }
 
 // The heater with the layers that a step finds for it.
-fn immersion_of(n: usize, x: Heater) -> Immersion
+pub fn immersion_of(n: usize, x: Heater) -> Immersion
     requires { ⌜ n ≤ maxLayers ⌝ }
     ensures { λ r. ⌜ r ≡ immersion n x ⌝ }
 {

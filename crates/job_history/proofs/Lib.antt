@@ -1,0 +1,3 @@
+-- The laws of `job_history`.
+pub mod Telling
+pub mod StepTold

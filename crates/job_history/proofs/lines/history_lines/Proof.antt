@@ -1,0 +1,30 @@
+-- `lines::history_lines` meets its contract: its parts, one after the other.
+use native.Mathlib.Omega.{arith}
+use Rattle.job_lines.specs.Put.{put-then, put-first}
+use Rattle.job_history.specs.Lines.{historyLines}
+use borrow.Author.Needs.{needs}
+use Rattle.job_history.proofs.lines.history_lines.Statement.{statement}
+use Rattle.job_history.proofs.lines.history_lines.Tie as tie
+
+put-head-requires : tie.Need-put-head-requires
+put-head-requires c κs = search needs
+
+put-byte-requires : tie.Need-put-byte-requires
+put-byte-requires c κs = search needs
+
+put-turn-lines-requires : tie.Need-put-turn-lines-requires
+put-turn-lines-requires c κs = search needs
+
+same-length : tie.Need-same-length
+same-length c = search needs
+
+returns : tie.Need-returns
+unfolding historyLines
+returns c =
+    let put = put-first (put-then (put-then (c .before .before .before .before .before .before .before .before .before .before .before .put-head .ensures .0) (c .before .before .before .before .before .before .before .put-byte .ensures .0)) (c .before .before .put-turn-lines .ensures .0)) in
+    (put .0, put .1, omega arith)
+
+pub history-lines-spec : {M : Type 1} → statement M
+history-lines-spec =
+    tie.close
+    (tie.spec put-head-requires put-byte-requires put-turn-lines-requires same-length returns)

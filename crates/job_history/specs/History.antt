@@ -1,0 +1,41 @@
+-- States what the history of a whole job prints (01, Job; demand 3): its steps' turns, and E for a refusal outside a step, as the job itself prints it.
+use Prim.Native.Nat.{ℕ}
+use mathlib.Core.List.{List}
+use lib.ListN.{length}
+use Rattle.storage_tank.specs.declared.StorageTank.{StorageTank}
+use Rattle.storage_tank.specs.declared.Report.{Report}
+use Rattle.storage_tank.specs.declared.Step.{Step}
+use Rattle.storage_tank.specs.Calls.{stepped}
+use Rattle.job_reader.specs.declared.Record.{Record}
+use Rattle.job_reader.specs.declared.Record.the-variants.{Tank, Heater as HeaterCase, Step as StepCase, Refused}
+use Rattle.job_reader.specs.declared.Reading.{Reading}
+use Rattle.job_run.specs.declared.Job.{Job}
+use Rattle.job_run.specs.Job.{Turn, stepOf, afterStep, turnOf, readingOf, runAll}
+use Rattle.job_history.specs.Facts.{stepTurns, turnsOf}
+use Rattle.job_history.specs.Lines.{historyLines}
+
+-- a step's history: its index, its number and its turns
+unfoldable pub stepHistory : ℕ → StorageTank → Report → Step → List ℕ
+stepHistory index t r a = historyLines index (stepped t r a .number) (turnsOf (stepTurns t a))
+
+-- the job goes on as it does when it prints its figures
+unfoldable pub historyStep : Job → ℕ → Step → Turn
+historyStep j next a =
+    let s = stepped (j .tank) (j .report) a in
+    record { job = afterStep j next (s .tank) (s .report); text = stepHistory (j .steps) (j .tank) (j .report) a }
+
+unfoldable pub historyOf : List ℕ → Job → Reading → Record → Turn
+historyOf bytes j r (Tank t) = turnOf bytes j r (Tank t)
+historyOf bytes j r (HeaterCase h) = turnOf bytes j r (HeaterCase h)
+historyOf bytes j r (StepCase p) = historyStep j (r .next) (stepOf p (r .volumes) (r .settings))
+historyOf bytes j r Refused = turnOf bytes j r Refused
+
+unfoldable pub historyTurn : List ℕ → Job → Turn
+historyTurn bytes j = historyOf bytes j (readingOf bytes j) (readingOf bytes j .content)
+
+abbrev pub historyRun : List ℕ → Turn
+historyRun bytes = runAll (historyTurn bytes) (length bytes)
+
+-- all that the history of a job prints
+abbrev pub historyText : List ℕ → List ℕ
+historyText bytes = historyRun bytes .text

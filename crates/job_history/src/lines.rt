@@ -1,0 +1,106 @@
+// The lines of a step's history.
+ghost use mathlib.Core.Path.{_≡_};
+ghost use mathlib.Core.List.{_++_};
+ghost use Prim.Native.Nat.{_+_, _*_, _≤_};
+ghost use lib.ListN.{length};
+ghost use Rattle.working_order.specs.Order.{maxHeaters};
+ghost use Rattle.job_lines.specs.Put.{Put, written};
+ghost use Rattle.job_history.specs.Lines.{missingText, pointsText, courseText, outcomeText, turnLine, turnLines, historyLines};
+use crate::TurnFact;
+use crate::Turns;
+use heating::SetPoints;
+use job_lines::text::put_byte;
+use job_lines::text::put_double;
+use job_lines::text::put_number;
+use working_order::MAX_HEATERS;
+
+// A space and a hyphen.
+fn put_missing(buf: &mut [u8], at: usize) -> usize
+    requires { ⌜ at ≤ 4000 ⌝ }
+    ensures { λ r. ⌜ (Put (now (buf .entry)) at missingText (now (buf .exit)) r) × (r ≤ at + 2) ⌝ }
+{
+    let a = put_byte(buf, at, b' ');
+    put_byte(buf, a, b'-')
+}
+
+fn put_points(buf: &mut [u8], at: usize, p: SetPoints) -> usize
+    requires { ⌜ at ≤ 3000 ⌝ }
+    ensures { λ r. ⌜ (Put (now (buf .entry)) at (pointsText p) (now (buf .exit)) r) × (r ≤ at + 34) ⌝ }
+{
+    match p {
+        SetPoints::Neither => {
+            let a = put_missing(buf, at);
+            put_missing(buf, a)
+        }
+        SetPoints::Lower(l) => {
+            let a = put_double(buf, at, l);
+            put_missing(buf, a)
+        }
+        SetPoints::Upper(u) => {
+            let a = put_missing(buf, at);
+            put_double(buf, a, u)
+        }
+        SetPoints::Both(l, u) => {
+            let a = put_double(buf, at, l);
+            put_double(buf, a, u)
+        }
+    }
+}
+
+// T, the heater, its thermostat layer at the begin and at the end, and its set points.
+fn put_course(buf: &mut [u8], at: usize, x: TurnFact) -> usize
+    requires { ⌜ at ≤ 2000 ⌝ }
+    ensures { λ r. ⌜ (Put (now (buf .entry)) at (courseText x) (now (buf .exit)) r) × (r ≤ at + 90) ⌝ }
+{
+    let a = put_byte(buf, at, b'T');
+    let b = put_number(buf, a, x.heater);
+    let c = put_double(buf, b, x.start);
+    let d = put_double(buf, c, x.finish);
+    let p = x.points;
+    put_points(buf, d, p)
+}
+
+// Whether the heater ran, its flag, its supply and the rounds of its mixing, and the line's end.
+fn put_outcome(buf: &mut [u8], at: usize, x: TurnFact) -> usize
+    requires { ⌜ at ≤ 2090 ⌝ }
+    ensures { λ r. ⌜ (Put (now (buf .entry)) at (outcomeText x) (now (buf .exit)) r) × (r ≤ at + 81) ⌝ }
+{
+    let a = put_number(buf, at, job_lines::lines::flag_number(x.ran));
+    let b = put_number(buf, a, job_lines::lines::flag_number(x.flag));
+    let c = put_double(buf, b, x.supplied);
+    let d = put_number(buf, c, x.rounds);
+    put_byte(buf, d, b'\n')
+}
+
+fn put_turn_line(buf: &mut [u8], at: usize, x: TurnFact) -> usize
+    requires { ⌜ at ≤ 2000 ⌝ }
+    ensures { λ r. ⌜ (Put (now (buf .entry)) at (turnLine x) (now (buf .exit)) r) × (r ≤ at + 171) ⌝ }
+{
+    let a = put_course(buf, at, x);
+    put_outcome(buf, a, x)
+}
+
+// The lines of the first `count` turns.
+fn put_turn_lines(buf: &mut [u8], at: usize, count: usize, facts: [TurnFact; MAX_HEATERS]) -> usize
+    requires { ⌜ (count ≤ maxHeaters) × (at ≤ 44) ⌝ }
+    ensures { λ r. ⌜ (Put (now (buf .entry)) at (turnLines count facts) (now (buf .exit)) r) × (r ≤ at + 171 * count) ⌝ }
+{
+    let mut a = at;
+    let mut k = 0;
+    while k < count {
+        let x = facts[k];
+        a = put_turn_line(buf, a, x);
+        k += 1;
+    }
+    a
+}
+
+pub fn history_lines(buf: &mut [u8], index: usize, number: u8, r: Turns) -> usize
+    requires { ⌜ r .count ≤ maxHeaters ⌝ }
+    ensures { λ n. ⌜ (n ≡ length (historyLines index number r)) × (now (buf .exit) ≡ written (now (buf .entry)) (historyLines index number r)) × (n ≤ 1500) ⌝ }
+{
+    let a = job_lines::lines::put_head(buf, index, number);
+    let b = put_byte(buf, a, b'\n');
+    let facts = r.facts;
+    put_turn_lines(buf, b, r.count, facts)
+}

@@ -1,0 +1,49 @@
+// One record of a job's history: the tank made, a heater added, a step's turns, or the end.
+ghost use Prim.Native.Nat.{_<_};
+ghost use Rattle.job_run.specs.Job.{Turned};
+ghost use Rattle.job_history.specs.History.{historyStep, historyTurn};
+use job_reader::Record;
+use job_run::Job;
+use job_run::Printed;
+use storage_tank::Step;
+
+// A step's turns; the job goes on as it does when it prints its figures.
+fn tell_step(buf: &mut [u8], j: Job, next: usize, a: Step) -> Printed
+    requires { ⌜ j .steps < 65536 ⌝ }
+    ensures { λ r. ⌜ Turned (historyStep j next a) (now (buf .entry)) (now (buf .exit)) r ⌝ }
+{
+    let before = j.tank;
+    let last = j.report;
+    let turns = crate::facts::step_turns(before, a);
+    let s = before.demand_hot_water(last, a);
+    let length = crate::lines::history_lines(buf, j.steps, s.number, turns);
+    let tank = s.tank;
+    let report = s.report;
+    let mut job = j;
+    job.at = next;
+    job.steps = j.steps + 1;
+    job.tank = tank;
+    job.report = report;
+    Printed { job, length }
+}
+
+// The next record of a job: the lines of its history into the lent buffer, and the job after it.
+pub fn next_history(buf: &mut [u8], bytes: &[u8], j: Job) -> Printed
+    requires { ⌜ j .steps < 65536 ⌝ }
+    ensures { λ r. ⌜ Turned (historyTurn (now (bytes .entry)) j) (now (buf .entry)) (now (buf .exit)) r ⌝ }
+{
+    let d = j.design;
+    let r = job_reader::read::read_record(bytes, j.at, j.has_tank, d.heaters, j.steps != 0);
+    let next = r.next;
+    let content = r.content;
+    match content {
+        Record::Tank(t) => job_run::record::make_tank(buf, j, next, job_run::start::design_of(t)),
+        Record::Heater(h) => job_run::record::add_heater(buf, j, next, h),
+        Record::Step(p) => {
+            let volumes = r.volumes;
+            let settings = r.settings;
+            tell_step(buf, j, next, job_run::start::step_of(p, volumes, settings))
+        }
+        Record::Refused => job_run::record::end_or_refuse(buf, bytes.len(), j),
+    }
+}
