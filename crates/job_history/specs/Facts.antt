@@ -8,8 +8,11 @@ use Rattle.heating.specs.declared.SetPoints.the-variants.{Neither}
 use Rattle.working_order.specs.Order.{maxHeaters}
 use Rattle.storage_tank.specs.declared.StorageTank.{StorageTank}
 use Rattle.storage_tank.specs.declared.Step.{Step}
+use Rattle.storage_tank.specs.declared.Report.{Report}
 use Rattle.storage_tank.specs.Fixed.{fixedIn, stateIn}
-use Rattle.storage_tank.specs.Work.{Turn, work}
+use Rattle.storage_tank.specs.Work.{Turn, Work, work}
+use Rattle.storage_tank.specs.Calls.{stepped}
+use Rattle.storage_tank.specs.History.{Call, step}
 use Rattle.job_history.specs.declared.TurnFact.{TurnFact}
 use Rattle.job_history.specs.declared.Turns.{Turns}
 
@@ -42,3 +45,19 @@ noFacts = replicate maxHeaters noFact
 
 abbrev pub turnsOf : List TurnFact → Turns
 turnsOf us = record { count = length us; facts = copied (length us) us noFacts }
+
+-- ---- a list of steps
+
+-- what is told of each step, each from the tank and the report that the one before handed back
+unfoldable pub toldFrom : StorageTank → Report → List Step → List (List TurnFact)
+toldFrom t r [] = []
+toldFrom t r (a ∷ more) = let y = stepped t r a in stepTurns t a ∷ toldFrom (y .tank) (y .report) more
+
+-- the turns of each work of a history
+unfoldable pub workFacts : List Work → List (List TurnFact)
+workFacts [] = []
+workFacts (w ∷ ws) = factsOf (w .turns) ∷ workFacts ws
+
+unfoldable pub calls : List Step → List Call
+calls [] = []
+calls (a ∷ more) = step a ∷ calls more

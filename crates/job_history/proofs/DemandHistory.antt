@@ -1,0 +1,45 @@
+-- Proves that what is told of a made tank's steps are the turns of the history that demand 3 speaks of (01, Turn; demand 3).
+use mathlib.Core.Path.{_≡_, refl, ap, _∙_}
+use mathlib.Core.List.{List, [], _∷_}
+use Prim.Native.Nat.{ℕ, zero, suc, _≤_}
+use Rattle.working_order.specs.Order.{maxHeaters}
+use Rattle.storage_tank.specs.declared.StorageTank.{StorageTank}
+use Rattle.storage_tank.specs.declared.TankDesign.{TankDesign}
+use Rattle.storage_tank.specs.declared.Step.{Step}
+use Rattle.storage_tank.specs.declared.Report.{Report}
+use Rattle.storage_tank.specs.Fixed.{Fixed, State, fixedIn, stateIn, fixedOf}
+use Rattle.storage_tank.specs.Work.{End, refused, done, Work, work}
+use Rattle.storage_tank.specs.Calls.{answer, madeOf, made, stepped}
+use Rattle.storage_tank.specs.History.{designRefusal, start, carry, workOf, run, history}
+use Rattle.storage_tank.specs.Demand.{tankOf}
+use Rattle.storage_tank.proofs.Works.{made-heaters}
+use Rattle.storage_tank.proofs.Demand.{fixed-is}
+use Rattle.job_history.specs.declared.TurnFact.{TurnFact}
+use Rattle.job_history.specs.Facts.{factsOf, stepTurns, toldFrom, workFacts, calls}
+
+module _ (m : TankDesign) (fits : m .heaters ≤ maxHeaters) where
+  -- a tank that holds make's numbers and the state st works steps the history does from st
+  work-is : (st : State) (a : Step) → work (fixedIn (tankOf m st)) (stateIn (tankOf m st)) a ≡ work (fixedOf m) st a
+  work-is st a = ap (λ (f : Fixed). work f st a) (fixed-is m st fits)
+
+  tank-is : (st : State) (r : Report) (e : End) → answer (tankOf m st) r e .tank ≡ tankOf m (carry st e)
+  unfolding answer
+  tank-is st r (refused n) = refl
+  tank-is st r (done s) = refl
+
+  stepped-tank : (st : State) (r : Report) (a : Step) → stepped (tankOf m st) r a .tank ≡ tankOf m (carry st (work (fixedOf m) st a .end))
+  unfolding stepped
+  stepped-tank st r a = ap (λ (w : Work). answer (tankOf m st) r (w .end) .tank) (work-is st a) ∙ tank-is st r (work (fixedOf m) st a .end)
+
+  told-from : (st : State) (t : StorageTank) (r : Report) (steps : List Step) → t ≡ tankOf m st → toldFrom t r steps ≡ workFacts (run (workOf m 0) st (calls steps))
+  unfolding toldFrom workFacts run calls stepTurns workOf
+  told-from st t r [] e = refl
+  told-from st t r (a ∷ steps) e =
+      let w = work (fixedOf m) st a in
+      let next = told-from (carry st (w .end)) (stepped t r a .tank) (stepped t r a .report) steps (ap (λ (x : StorageTank). stepped x r a .tank) e ∙ stepped-tank st r a) in
+      rw (next, e, work-is st a)
+
+-- the law: after an accepted make, what is told of the steps is the history's
+pub told-history : (m : TankDesign) (r : Report) (steps : List Step) → designRefusal m ≡ 0 → toldFrom (made m .tank) r steps ≡ workFacts (history m (calls steps))
+unfolding made madeOf history
+told-history m r steps e = rw e (told-from m (made-heaters m e) (start m) (madeOf m 0 .tank) r steps refl)
