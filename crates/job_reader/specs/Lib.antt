@@ -2,5 +2,6 @@
 pub mod Bytes
 pub mod Fields
 pub mod Records
+pub mod Reader
 pub mod Values
 pub mod WellFormed
