@@ -2,3 +2,4 @@
 pub mod Patterns
 pub mod Filling
 pub mod ReadLaws
+pub mod ReaderLaws

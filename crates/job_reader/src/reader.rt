@@ -1,7 +1,7 @@
 // The reader that carries its bytes: the lent slice and a place in it. Each function takes it apart and calls a function on the slice and the number.
 ghost use mathlib.Core.Path.{_≡_};
 ghost use Rattle.job_reader.specs.Records.{readRecord};
-ghost use Rattle.job_reader.specs.Reader.{bytesLeft, madeReader, nextReading, nextReader};
+ghost use Rattle.job_reader.specs.Reader.{newReader, bytesLeft, NextRead};
 use crate::Reading;
 
 pub struct JobReader<'a> {
@@ -19,14 +19,14 @@ pub fn bytes_left(s: &[u8], at: usize) -> usize
 impl<'a> JobReader<'a> {
     // A job's bytes, from their start.
     pub fn new(bytes: &'a [u8]) -> JobReader<'a>
-        ensures { λ r. ⌜ r ≡ madeReader (bytes .entry) ⌝ }
+        ensures { λ r. ⌜ r ≡ newReader (bytes .entry) ⌝ }
     {
         JobReader { bytes, at: 0 }
     }
 
     // The next record, by what came before it; the reader moves past it, and stays where it is if the record is refused.
     pub fn next<'s>(&'s mut self, tank: bool, heaters: usize, step: bool) -> Reading
-        ensures { λ r. ⌜ (r ≡ nextReading (now (self .entry)) tank heaters step) × (now (self .exit) ≡ nextReader (now (self .entry)) tank heaters step) ⌝ }
+        ensures { λ r. ⌜ NextRead (now (self .entry)) tank heaters step r (now (self .exit)) ⌝ }
     {
         let r = crate::read::read_record(self.bytes, self.at, tank, heaters, step);
         self.at = r.next;

@@ -48,7 +48,7 @@ use denote.Exit.{yes}
 use borrow.Table.OneValue.{part-in-at, part-out-at}
 use borrow.Within.Token.{Rest, within-token, within-end}
 use Rattle.job_reader.specs.Records.{readRecord}
-use Rattle.job_reader.specs.Reader.{nextReading, nextReader}
+use Rattle.job_reader.specs.Reader.{NextRead}
 use Rattle.job_reader.specs.declared.Reading.{Reading}
 use Rattle.job_reader.specs.declared.reader.JobReader.{JobReader}
 use Rattle.job_reader.proofs.reader.JobReader as T
@@ -158,8 +158,8 @@ module _ {M : Type 1} (𝓤 : URA M) (H : Heap 𝓤) (A : Atoms 𝓤) (W : Given
         calls-at ! fm (Next 𝓤 H A at-mem run) known (to ν δ l₆) (and-then ! (load ! (from ! (stop !)) (look ! 5 refl)) (and-then ! (load ! (from ! (stop !)) (look ! 12 refl)) (and-then ! (load ! (from ! (stop !)) (look ! 10 refl)) (and-then ! (load ! (from ! (stop !)) (look ! 8 refl)) (no-more !))))) (λ u.
         use1 W (later (some (λ (r : Reading). ((‵ (flft (ν ∷ κ) (PosShare·right q)) ⊛ ‵ (flft κ (PosShare·left q)) ⊛ ‵ ftrue) ⊛ ‵ (S.the-row .own r (u ∷ []))) ⊛ raw (ensured 𝓤 H A next.ended (next.clauses 𝓤 H A at-mem run) (κs ν) (lent δ l₆) tt r)))) (id⊢ 𝓤 _) $ await ! tt $ pick ! (λ r.
         -- what `next` ensures, at some last reader
-        split ! $ move ! (1 ∷ []) $ use1 W (some (λ (ws : JobReader × (Unit {0} × (Unit {0} × (Unit {0} × Unit {0})))). ‵ (lasts next.ended (κs ν) (lent δ l₆) ws) ⊛ raw (fact 𝓤 ((r ≡ nextReading h tank heaters step) × (ws .0 ≡ nextReader h tank heaters step))))) (id⊢ 𝓤 _) $ pick ! (λ ws.
-        split ! $ move ! (1 ∷ []) $ heard ! ((r ≡ nextReading h tank heaters step) × (ws .0 ≡ nextReader h tank heaters step)) (λ e. fsplit ! $ move ! (2 ∷ []) $ split ! $ move ! (1 ∷ []) $
+        split ! $ move ! (1 ∷ []) $ use1 W (some (λ (ws : JobReader × (Unit {0} × (Unit {0} × (Unit {0} × Unit {0})))). ‵ (lasts next.ended (κs ν) (lent δ l₆) ws) ⊛ raw (fact 𝓤 (NextRead h tank heaters step r (ws .0))))) (id⊢ 𝓤 _) $ pick ! (λ ws.
+        split ! $ move ! (1 ∷ []) $ heard ! (NextRead h tank heaters step r (ws .0)) (λ e. fsplit ! $ move ! (2 ∷ []) $ split ! $ move ! (1 ∷ []) $
         -- [the answer; the tokens; the last value; …; the lender's part; the rest; true; what s owns; _7; …; _6's end; _5; …; _4; …; _3; …; _2; …; _1; …; room for _0; …]
         peeks ! S.the-row (Is S.the-row) (shows 𝓤 H A S.the-row) r (u ∷ []) (λ is.
         land ! (from ! (stop !)) (init ! 21 refl (LL.lawful S.the-type S′.the-laws 𝓤 H A W .typed r _ is .0)) $
@@ -173,7 +173,7 @@ module _ {M : Type 1} (𝓤 : URA M) (H : Heap 𝓤) (A : Atoms 𝓤) (W : Given
         -- [_6; what the reader owns; κ's token; true; the answer; …; true; what s owns; _7; …; _6's end; _5; …; _4; …; _3; …; _2; …; _1; …; _0; …]
         returns ! (look ! 21 refl) $ forget ! 0 refl $ forget ! 8 refl $ forget ! 11 refl $ forget ! 13 refl $ forget ! 15 refl $ forget ! 17 refl $ forget ! 19 refl $ forget ! 21 refl $
         move ! (21 ∷ 22 ∷ []) $ free1 ! $ move ! (19 ∷ 20 ∷ []) $ free1 ! $ move ! (17 ∷ 18 ∷ []) $ free1 ! $ move ! (15 ∷ 16 ∷ []) $ free1 ! $ move ! (13 ∷ 14 ∷ []) $ free1 ! $ move ! (11 ∷ 12 ∷ []) $ free1 ! $ move ! (0 ∷ 10 ∷ []) $ free1 ! $ move ! (7 ∷ 8 ∷ []) $ free1 ! $ free0 ! $
-        keep ! (1 ∷ 3 ∷ 6 ∷ []) $ by ! (exits r u (e .0))))))))))))))))))
+        keep ! (1 ∷ 3 ∷ 6 ∷ []) $ by ! (exits r u (e .answers))))))))))))))))))
 
 module _ {M : Type 1} (𝓤 : URA M) (H : Heap 𝓤) (A : Atoms 𝓤) (W : Given 𝓤 H A) (mem : Memory → SProp 𝓤) (run : Routine → Fun 𝓤) where
   read-at-walks : (C : Calls 𝓤 H) (Λ : Loops 𝓤 H) → FmC 𝓤 H (W .laws) C → Triple 𝓤 (C #next) (Next 𝓤 H A mem run)

@@ -1,7 +1,7 @@
 -- `reader::JobReader::next` meets its contract (01, Forms: the lent bytes and a position): a walk of its MIR. The reader that is lent is opened, `read_record` is called on its slice and its place, the position that it answers is stored as the new place, and the reader is closed.
 -- A reader can be copied: of what it owns one copy goes to the callee, with the token of the bytes' lifetime, which comes back, and one is kept for the close.
-use mathlib.Core.Bool.{Bool}
-use mathlib.Core.Path.{_≡_, refl, ap, subst}
+use mathlib.Core.Bool.{Bool, cond}
+use mathlib.Core.Path.{_≡_, refl, sym, ap, subst}
 use Prim.Native.Nat.{ℕ, _<_, _^_}
 use mathlib.Core.List.{List, [], _∷_}
 use lib.Dec.{T as Holds}
@@ -29,7 +29,7 @@ use denote.Laws.{Is, shows}
 use denote.Memory.{mem, cellAt}
 use denote.Plain.{uint-vals, uint-tells, uint-makes, bool-vals, bool-tells, bool-makes}
 use denote.Builtin.{u8, usize, bool}
-use denote.Ref.{RefT, NamedLft, MutRef, ptr-vals, mut-tells}
+use denote.Ref.{RefT, NamedLft, MutRef, now, ptr-vals, mut-tells}
 use denote.Signature.{Slot, plain, namedLft}
 use denote.Slice.{sliceVal, ShrSlice}
 use denote.Steps.{only, opens, closes, owned, peeks, heard, nothing}
@@ -44,11 +44,13 @@ use denote.Triple.Spec.{Meets, tripleOf}
 use denote.Triple.Table.{entered, cited}
 use denote.Triple.Walked.{says, Stays, stay-ref, stay-none, walkOf, goes-none, goes-ref, Walks, ends-at, walked, walk-meets}
 use denote.Exit.{yes}
-use Rattle.job_reader.specs.Reader.{nextReading, nextReader}
+use Rattle.job_reader.specs.Records.{readRecord}
+use Rattle.job_reader.specs.Reader.{isRefused}
 use Rattle.job_reader.specs.declared.Reading.{Reading}
 use Rattle.job_reader.specs.declared.reader.JobReader.{JobReader}
 use Rattle.job_reader.proofs.reader.JobReader as T
 use Rattle.job_reader.proofs.reader.JobReader.Laws as T′
+use Rattle.job_reader.proofs.ReaderLaws.{read-places}
 use Rattle.job_reader.proofs.Reading as S
 use Rattle.job_reader.proofs.Reading.Laws as S′
 use Rattle.job_reader.proofs.read.read_record as read
@@ -97,11 +99,18 @@ module _ {M : Type 1} (𝓤 : URA M) (H : Heap 𝓤) (A : Atoms 𝓤) (W : Given
   mach = T′.lowered h
 
   abbrev found : Reading
-  found = nextReading h tank heaters step
+  found = readRecord (now (h .bytes)) (h .at) tank heaters step
 
-  -- the reader at the place that the answer r says
+  -- the reader at the place n
+  abbrev at-place : ℕ → JobReader
+  at-place n = record { bytes = h .bytes; at = n }
+
   abbrev moved : Reading → JobReader
-  moved r = record { bytes = h .bytes; at = r .next }
+  moved r = at-place (r .next)
+
+  -- what the code stores is what the contract says
+  stored : (r : Reading) → r ≡ found → r .next ≡ cond (isRefused (r .content)) (h .at) (r .next)
+  stored r e = rw e (sym (read-places (now (h .bytes)) (h .at) tank heaters step))
 
   abbrev Post : Val → SProp 𝓤
   Post = walkOf 𝓤 H A next.ended stayed (next.clauses 𝓤 H A at-mem run) .post (((κ, (κ′, tt)), (q, (q′, tt)), bounds, a, at), tt)
@@ -134,7 +143,7 @@ module _ {M : Type 1} (𝓤 : URA M) (H : Heap 𝓤) (A : Atoms 𝓤) (W : Given
   exits r e =
       qed W (‵ (fobs γ (B κ′ .coded .code (moved r))) ∷ ‵ (fbor κ (Body (mem (B κ′)) b o γ)) ∷ ‵ (flft κ q) ∷ ‵ (S.the-row .own r (S′.lowered r ∷ [])) ∷ (‵ (flft κ′ q′) ⊛ ‵ ftrue) ∷ []) ∵
       suffices ! _ (ends-at 𝓤 H A next.ended stayed (next.clauses 𝓤 H A at-mem run) W (((κ, (κ′, tt)), (q, (q′, tt)), bounds, a, at), tt) (S′.lowered r) r (moved r, (tt, (tt, (tt, tt)))) (tt, (tt, (tt, (tt, tt))))) $
-      says ! (e, ap moved e) $
+      says ! (record { answers = e; leaves = ap at-place (stored r e) }) $
       move ! (2 ∷ 4 ∷ []) $ join ! $ frame ! $ feqI ! (List Val) (vptr b o ∷ []) (vptr b o ∷ []) refl $ fjoin3 ! $
       nothing ! $ owned ! bool (Is bool) (bool-makes 𝓤 H A W) step _ refl $ fjoin ! $ owned ! usize (Is usize) (uint-makes 𝓤 H A W w64) heaters _ (refl, few) $ fjoin ! $ owned ! bool (Is bool) (bool-makes 𝓤 H A W) tank _ refl $ fjoin ! $
       move ! (1 ∷ 0 ∷ []) $ fjoin ! $ frame ! $ done !
