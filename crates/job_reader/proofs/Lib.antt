@@ -3,3 +3,4 @@ pub mod Patterns
 pub mod Filling
 pub mod ReadLaws
 pub mod ReaderLaws
+pub mod WholeJob

@@ -5,3 +5,4 @@ pub mod Records
 pub mod Reader
 pub mod Values
 pub mod WellFormed
+pub mod WholeJob
