@@ -1,10 +1,10 @@
 -- Proves that a job read to its end through a reader gives the records and the end that it gives by positions (01, Job; Forms Rattle lacks), and that every job is so read.
 use Prim.Native.Nat.{ℕ, zero, suc, _+_, _-_, _≤_}
 use native.Mathlib.Omega.{arith}
-use mathlib.Core.Bool.{Bool, true, false, cond, true≢false}
+use mathlib.Core.Bool.{Bool, true, false, true≢false}
 use mathlib.Core.List.{List, [], _∷_}
 use mathlib.Core.Logic.{_⊎_, inl, inr}
-use mathlib.Core.Path.{_≡_, refl, sym, ap, subst, _∙_}
+use mathlib.Core.Path.{_≡_, refl, sym, ap, _∙_}
 use lib.ListN.{length}
 use denote.Ref.{RefT, now}
 use Rattle.job_reader.specs.declared.Reading.{Reading}
@@ -12,7 +12,7 @@ use Rattle.job_reader.specs.declared.reader.JobReader.{JobReader}
 use Rattle.job_reader.specs.Records.{refusedAt, readRecord}
 use Rattle.job_reader.specs.Reader.{newReader, isRefused, nextReading, nextReader, NextRead}
 use Rattle.job_reader.specs.WellFormed.{WellFormed}
-use Rattle.job_reader.specs.WholeJob.{Before, nothingBefore, counted, JobRecords, recordsFrom, recordsAt, jobRecords, ReadToEnd, refused, another, placedAt, Same}
+use Rattle.job_reader.specs.WholeJob.{Before, nothingBefore, counted, recordsFrom, recordsAt, jobRecords, ReadToEnd, refused, another, placedAt, Same}
 use Rattle.job_reader.proofs.ReadLaws.{read-either, well-formed-moves}
 
 -- ---- so many records are enough from a position on; after one that is not refused, one fewer
@@ -39,10 +39,10 @@ module _ (x : JobReader) (b : Before) (r : Reading) (y : JobReader) (n : NextRea
   tested c f = sym (ap (λ (u : Reading). isRefused (u .content)) (n .answers)) ∙ f
 
   left-there : isRefused (r .content) ≡ true → y ≡ x
-  left-there f = n .leaves ∙ ap (λ (c : Bool). placedAt x (cond c (x .at) (r .next))) f
+  left-there f = rw f at (n .leaves)
 
   left-past : isRefused (r .content) ≡ false → y ≡ placedAt x (found x b .next)
-  left-past f = n .leaves ∙ ap (λ (c : Bool). placedAt x (cond c (x .at) (r .next))) f ∙ ap (λ (u : Reading). placedAt x (u .next)) (n .answers)
+  left-past f = rw (f, n .answers) at (n .leaves)
 
 -- ---- reads that meet the contract give what positions give
 
