@@ -10,7 +10,7 @@ pub struct JobReader<'a> {
 }
 
 // How many bytes stand at a place and after it: none if it is past the end.
-pub fn bytes_left(s: &[u8], at: usize) -> usize
+fn bytes_left(s: &[u8], at: usize) -> usize
     ensures { λ n. ⌜ n ≡ bytesLeft (now (s .entry)) at ⌝ }
 {
     if at <= s.len() { s.len() - at } else { 0 }
@@ -25,7 +25,7 @@ impl<'a> JobReader<'a> {
     }
 
     // The next record, by what came before it; the reader moves past it, and stays where it is if the record is refused.
-    pub fn next<'s>(&'s mut self, tank: bool, heaters: usize, step: bool) -> Reading
+    pub fn next(&mut self, tank: bool, heaters: usize, step: bool) -> Reading
         ensures { λ r. ⌜ NextRead (now (self .entry)) tank heaters step r (now (self .exit)) ⌝ }
     {
         let r = crate::read::read_record(self.bytes, self.at, tank, heaters, step);
