@@ -1,4 +1,4 @@
--- `reader::bytes_left` meets its contract: by the test of the place against the end.
+-- `reader::bytes_left` meets its contract (01, Forms Rattle lacks): by the test of the place against the end.
 use borrow.Author.Needs.{needs}
 use borrow.Author.Tests.{le-leb, lt-leb}
 use Rattle.job_reader.proofs.reader.bytes_left.Statement.{statement}

@@ -1,4 +1,4 @@
--- `reader::read_at` meets its contract (01, Forms: the lent bytes and a position): a walk of its MIR. A reader is made in a local, lent to `next` for a lifetime of the call within that of the bytes, and taken back. All that the proof knows of `next` is that it meets its contract.
+-- `reader::read_at` meets its contract (01, Forms Rattle lacks: the lent bytes and a position): a walk of its MIR. A reader is made in a local, lent to `next` for a lifetime of the call within that of the bytes, and taken back. All that the proof knows of `next` is that it meets its contract.
 -- A `&[u8]` can be copied, so what the slice owns is had twice: once for the parameter at exit, and once inside the reader.
 use mathlib.Core.Bool.{Bool}
 use mathlib.Core.Path.{_≡_, refl}

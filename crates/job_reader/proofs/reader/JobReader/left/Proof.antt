@@ -1,4 +1,4 @@
--- `reader::JobReader::left` meets its contract (01, Forms: the lent bytes and a position): a walk of its MIR. The reader is taken apart, and `bytes_left` is called on the slice and the place.
+-- `reader::JobReader::left` meets its contract (01, Forms Rattle lacks: the lent bytes and a position): a walk of its MIR. The reader is taken apart, and `bytes_left` is called on the slice and the place.
 -- A reader can be copied: what it owns is had twice, and one copy is kept whole for the exit. The callee takes the fields in their order, so what they own together is what it asks.
 use mathlib.Core.Path.{_≡_, refl}
 use Prim.Native.Nat.{ℕ}

@@ -1,4 +1,4 @@
--- `reader::JobReader::new` meets its contract (01, Forms: the lent bytes and a position): a walk of its MIR. The reader is made of the slice passed and 0.
+-- `reader::JobReader::new` meets its contract (01, Forms Rattle lacks: the lent bytes and a position): a walk of its MIR. The reader is made of the slice passed and 0.
 -- A `&[u8]` can be copied, so what it owns is had twice: once for the parameter at exit, and once inside the result.
 use mathlib.Core.Path.{refl}
 use Prim.Native.Nat.{ℕ}

@@ -1,4 +1,4 @@
--- `reader::JobReader::next` meets its contract (01, Forms: the lent bytes and a position): a walk of its MIR. The reader that is lent is opened, `read_record` is called on its slice and its place, the position that it answers is stored as the new place, and the reader is closed.
+-- `reader::JobReader::next` meets its contract (01, Forms Rattle lacks: the lent bytes and a position): a walk of its MIR. The reader that is lent is opened, `read_record` is called on its slice and its place, the position that it answers is stored as the new place, and the reader is closed.
 -- A reader can be copied: of what it owns one copy goes to the callee, with the token of the bytes' lifetime, which comes back, and one is kept for the close.
 use mathlib.Core.Bool.{Bool, cond}
 use mathlib.Core.Path.{_≡_, refl, sym, ap, subst}
