@@ -2,3 +2,5 @@
 pub mod Patterns
 pub mod Filling
 pub mod ReadLaws
+pub mod ReaderLaws
+pub mod WholeJob

@@ -1,6 +1,8 @@
--- The definitions of `job_reader`: numbers in a list of bytes, a step's repeated fields, the records, and which of them are well formed.
+-- The definitions of `job_reader`: numbers in a list of bytes, a step's repeated fields, the records, which of them are well formed, the reader that carries its bytes, and a job read to its end.
 pub mod Bytes
 pub mod Fields
 pub mod Records
+pub mod Reader
 pub mod Values
 pub mod WellFormed
+pub mod WholeJob

@@ -2,6 +2,7 @@
 pub mod bytes;
 pub mod fields;
 pub mod read;
+pub mod reader;
 
 use draw_off::event::MAX_EVENTS;
 use storage_tank::Heater;
