@@ -22,7 +22,7 @@ pub enum Value {
 use Value::{Double, Word};
 
 /// Density, specific heat and step 1, standby 0, layer volume 16.
-fn plain(layers: usize, initial: f64) -> Making {
+pub fn plain(layers: usize, initial: f64) -> Making {
     Making {
         layers,
         volume: 16.0 * layers as f64,
@@ -35,7 +35,7 @@ fn plain(layers: usize, initial: f64) -> Making {
     }
 }
 
-fn heater(rated: f64, position: f64) -> Heater {
+pub fn heater(rated: f64, position: f64) -> Heater {
     Heater {
         rated,
         position,
@@ -43,11 +43,11 @@ fn heater(rated: f64, position: f64) -> Heater {
     }
 }
 
-fn both(lower: f64, upper: f64) -> SetPoints {
+pub fn both(lower: f64, upper: f64) -> SetPoints {
     (Some(lower), Some(upper))
 }
 
-const UNSET: SetPoints = (None, None);
+pub const UNSET: SetPoints = (None, None);
 
 struct Maker {
     writer: Writer,

@@ -81,6 +81,15 @@ fn near(rng: &mut Rng, x: f64) -> f64 {
     nudge(rng, y)
 }
 
+/// Both set points, the lower one first.
+fn rising(a: f64, b: f64) -> SetPoints {
+    if a > b {
+        (Some(b), Some(a))
+    } else {
+        (Some(a), Some(b))
+    }
+}
+
 fn absent(rng: &mut Rng) -> f64 {
     match rng.below(3) {
         0 => 0.0,
@@ -424,11 +433,7 @@ fn near_ones(rng: &mut Rng, writer: &mut Writer) {
                     1 => lower,
                     _ => lower + rng.between(0.0, 10.0),
                 };
-                if lower > upper {
-                    (Some(upper), Some(lower))
-                } else {
-                    (Some(lower), Some(upper))
-                }
+                rising(lower, upper)
             })
             .collect();
         let step = Step {
@@ -590,8 +595,7 @@ fn zeros(rng: &mut Rng, writer: &mut Writer) {
                 match rng.below(6) {
                     0 => (None, None),
                     1 => (None, Some(b)),
-                    _ if a > b => (Some(b), Some(a)),
-                    _ => (Some(a), Some(b)),
+                    _ => rising(a, b),
                 }
             })
             .collect();
@@ -656,11 +660,7 @@ fn range(rng: &mut Rng, writer: &mut Writer) {
             .map(|_| {
                 let a = if rng.one_in(2) { tank.initial } else { signed(rng) };
                 let b = signed(rng);
-                if a > b {
-                    (Some(b), Some(a))
-                } else {
-                    (Some(a), Some(b))
-                }
+                rising(a, b)
             })
             .collect();
         let step = Step {
