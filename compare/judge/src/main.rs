@@ -7,6 +7,7 @@ mod list;
 mod oracle;
 mod rng;
 mod shapes;
+mod tally;
 mod words;
 
 use std::io::{Read, Write};
@@ -17,7 +18,7 @@ judge answer put                              the same, with records that put in
 judge mix VOLUME LAYER...                     a mixing of layers of this volume, bottom first
 judge make SHAPE SEED                         the bytes of a random job
 judge show SHAPE SEED                         the same in words
-judge against server SHAPE FROM N COMMAND...  N seeds of a shape, or of all, against a process that answers requests
+judge against server SHAPE FROM N COMMAND...  N seeds of a shape (several: with commas; or all) against a process that answers requests
 judge against program SHAPE FROM N COMMAND... the same against a program started for each job
 judge list write FOLDER EACH                  writes the stored list, EACH random jobs of each shape
 judge list export FOLDER TO                   the list as what programs read and must print, into the folder TO
@@ -47,8 +48,11 @@ fn parts(from: u64, count: u64) -> bool {
 }
 
 fn speed(count: u64) {
-    for shape in shapes::JOB_SHAPES.iter().chain(&[shapes::LONG, shapes::PUT]) {
-        let count = if *shape == shapes::LONG {
+    for shape in shapes::JOB_SHAPES
+        .iter()
+        .chain(&[shapes::LONG, shapes::SEASON, shapes::PUT])
+    {
+        let count = if *shape == shapes::LONG || *shape == shapes::SEASON {
             count / 50 + 1
         } else {
             count
@@ -105,6 +109,13 @@ fn rounds(count: u64) {
 
 fn main() {
     original::probe::quiet_panics();
+    // A panic of the judge itself is said aloud.
+    if std::panic::catch_unwind(run).is_err() {
+        stop(&format!("judge: {}", original::probe::last_panic()));
+    }
+}
+
+fn run() {
     let args: Vec<String> = std::env::args().skip(1).collect();
     let words: Vec<&str> = args.iter().map(|word| word.as_str()).collect();
     let number = |word: &str| -> u64 {
@@ -182,7 +193,8 @@ fn main() {
     std::process::exit(if fine { 0 } else { 1 });
 }
 
-fn stop(words: &str) -> ! {
+/// Ends with words on standard error.
+pub fn stop(words: &str) -> ! {
     eprintln!("{}", words.trim_end());
     std::process::exit(2)
 }

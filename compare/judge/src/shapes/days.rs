@@ -1,7 +1,7 @@
 //! Ordinary tanks on ordinary days.
 
 use super::numbers::{absent, near};
-use crate::job::{Step, Writer};
+use crate::job::{Step, Writer, MOST_BYTES};
 use crate::rng::Rng;
 use original::probe::{Heater, Making, SetPoints};
 
@@ -185,6 +185,73 @@ pub fn long(rng: &mut Rng, writer: &mut Writer) {
         if whole && left < 2 * length && left >= 16 + 17 * heaters && (left - 16 - 17 * heaters) % 8 == 0 {
             // Ends exactly on the line; what follows is not read.
             step.volumes = vec![0.5; (left - 16 - 17 * heaters) / 8];
+        }
+        writer.step(&step, 0.0);
+    }
+}
+
+/// A season in one job: as many steps as 65,536 bytes hold, each with draws, on layers with heaters. Now and then
+/// a step is refused and the job goes on.
+pub fn season(rng: &mut Rng, writer: &mut Writer) {
+    let layers = if rng.one_in(2) {
+        rng.from_to(2, 6)
+    } else {
+        rng.from_to(2, 32)
+    } as usize;
+    let heaters = if rng.one_in(8) {
+        1
+    } else {
+        rng.from_to(2, 8).min(rng.from_to(2, 8))
+    } as usize;
+    let mut tank = day_tank(rng, layers);
+    // Whole numbers in some: ties and equalities.
+    let whole = rng.one_in(4);
+    let round = |x: f64| if whole { x.round() } else { x };
+    if whole {
+        tank.volume = 16.0 * layers as f64;
+        (tank.density, tank.specific_heat) = (1.0, 1.0);
+    }
+    writer.tank(&tank);
+    for _ in 0..heaters {
+        let mut heater = day_heater(rng);
+        if whole {
+            heater.rated = (heater.rated * 50.0).round();
+        }
+        writer.heater(&heater, 0.0);
+    }
+    // Little draws keep the layers apart, large ones empty the tank.
+    let most = tank.volume * *rng.pick(&[0.02, 0.05, 0.1, 0.3]);
+    let cold = rng.between(4.0, 18.0);
+    loop {
+        let mut step = Step {
+            feed: match rng.below(24) {
+                0 => rng.between(20.0, 90.0),
+                1 => near(rng, tank.initial),
+                _ => cold,
+            },
+            volumes: (0..if rng.one_in(8) { 1 } else { rng.from_to(2, 5) })
+                .map(|_| match rng.below(16) {
+                    0 => near(rng, tank.volume / layers as f64),
+                    1 => rng.between(0.0, 1.2 * tank.volume),
+                    _ => round(rng.between(0.0, most)),
+                })
+                .collect(),
+            set_points: (0..heaters)
+                .map(|_| {
+                    let (lower, upper) = day_set_points(rng);
+                    (lower.map(round), upper.map(round))
+                })
+                .collect(),
+        };
+        match rng.below(400) {
+            0 => step.feed = f64::NAN,
+            1 => step.volumes[0] = -1.0,
+            2 => step.set_points[0] = (Some(50.0), None),
+            3 => step.volumes = vec![1.0; 65],
+            _ => {}
+        }
+        if writer.bytes.len() + 16 + 8 * step.volumes.len() + 17 * heaters > MOST_BYTES {
+            return;
         }
         writer.step(&step, 0.0);
     }

@@ -13,11 +13,11 @@ use crate::job::Writer;
 use crate::rng::Rng;
 use calls::put;
 use damaged::damaged;
-use days::{day, hot_feed, hysteresis, long};
+use days::{day, hot_feed, hysteresis, long, season};
 use edges::{edges, exact, near_ones, zeros};
 use sizes::{overflow, range, strange, tiny};
 
-/// The shapes of jobs. `long` is apart: its jobs pass 65,536 bytes.
+/// The shapes of jobs. `long` and `season` are apart: their jobs are of 65,536 bytes.
 pub const JOB_SHAPES: &[&str] = &[
     "day",
     "full",
@@ -35,7 +35,10 @@ pub const JOB_SHAPES: &[&str] = &[
     "range",
 ];
 
+/// Past 65,536 bytes.
 pub const LONG: &str = "long";
+/// As many accepted steps as a job can hold.
+pub const SEASON: &str = "season";
 /// Steps from a tank whose layers and flags are put in.
 pub const PUT: &str = "put";
 /// Mixings by themselves.
@@ -72,9 +75,10 @@ pub fn job(shape: &str, seed: u64) -> Vec<u8> {
         "hysteresis" => hysteresis(rng, &mut writer),
         "zeros" => zeros(rng, &mut writer),
         "range" => range(rng, &mut writer),
-        "long" => long(rng, &mut writer),
-        "put" => put(rng, &mut writer),
-        _ => panic!("unknown shape {shape}"),
+        LONG => long(rng, &mut writer),
+        SEASON => season(rng, &mut writer),
+        PUT => put(rng, &mut writer),
+        _ => crate::stop(&format!("no shape {shape}")),
     }
     writer.bytes
 }
