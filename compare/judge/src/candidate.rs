@@ -23,6 +23,18 @@ pub trait Candidate {
         let _ = (volume, layers);
         None
     }
+
+    /// Make, of what `lent::make_request` has: `N` and the number, and the tank's places.
+    fn make(&mut self, bytes: &[u8]) -> Option<String> {
+        let _ = bytes;
+        None
+    }
+
+    /// A step on what `lent::step_request` has: `T` and the number, and the places of tank and report.
+    fn lent(&mut self, bytes: &[u8]) -> Option<String> {
+        let _ = bytes;
+        None
+    }
 }
 
 fn start(words: &[&str]) -> Child {
@@ -34,7 +46,7 @@ fn start(words: &[&str]) -> Child {
         .unwrap_or_else(|error| crate::stop(&format!("{} cannot be started: {error}", words[0])))
 }
 
-/// A process that answers one request after another: a byte (J, P or M), a 4-byte length and the bytes; back
+/// A process that answers one request after another: a byte (J, P, M, N or T), a 4-byte length and the bytes; back
 /// come a 4-byte length and the lines. A length of 2^32 - 1 says that it has no such call.
 pub struct Server {
     name: String,
@@ -90,6 +102,14 @@ impl Candidate for Server {
             bytes.extend_from_slice(&layer.to_le_bytes());
         }
         self.ask(b'M', &bytes)
+    }
+
+    fn make(&mut self, bytes: &[u8]) -> Option<String> {
+        self.ask(b'N', bytes)
+    }
+
+    fn lent(&mut self, bytes: &[u8]) -> Option<String> {
+        self.ask(b'T', bytes)
     }
 }
 

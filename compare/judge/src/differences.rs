@@ -1,8 +1,8 @@
 //! Where the Rust and document 01 part: the smallest inputs, run on the Rust without 01's checks.
 
 use crate::figures::{both, heater, plain, UNSET};
-use crate::job::{Step, MOST_HEATERS};
-use crate::oracle::{check_heater, check_step, check_tank, Judged, Outcome};
+use crate::job::Step;
+use crate::oracle::{check_call, check_step, Judged, Outcome};
 use original::probe::{Failed, Heater, Making, SetPoints, State, Tank};
 
 #[derive(Clone, Copy, Debug, PartialEq)]
@@ -198,16 +198,7 @@ fn number_of_01(case: &Difference) -> u8 {
         Some(state) => &state.layers[..],
         None => &initial,
     };
-    let mut number = match check_tank(&case.making, temperatures) {
-        1 => 1,
-        _ if case.heaters.len() > MOST_HEATERS => 2,
-        number => number,
-    };
-    for heater in &case.heaters {
-        if number == 0 {
-            number = check_heater(heater);
-        }
-    }
+    let mut number = check_call(&case.making, temperatures, case.heaters.len(), &case.heaters);
     if number == 0 {
         number = check_step(&case.step, case.heaters.len());
     }

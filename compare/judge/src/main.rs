@@ -3,6 +3,7 @@ mod candidate;
 mod differences;
 mod figures;
 mod job;
+mod lent;
 mod list;
 mod oracle;
 mod rng;
@@ -48,11 +49,11 @@ fn parts(from: u64, count: u64) -> bool {
 }
 
 fn speed(count: u64) {
-    for shape in shapes::JOB_SHAPES
+    for shape in [shapes::JOB_SHAPES, shapes::LARGE_SHAPES, &[shapes::PUT]]
+        .concat()
         .iter()
-        .chain(&[shapes::LONG, shapes::SEASON, shapes::PUT])
     {
-        let count = if *shape == shapes::LONG || *shape == shapes::SEASON {
+        let count = if shapes::LARGE_SHAPES.contains(shape) {
             count / 50 + 1
         } else {
             count

@@ -44,6 +44,20 @@ pub fn check_heater(heater: &Heater) -> u8 {
     0
 }
 
+/// 1 to 5 of 01 in order, for a tank that is made or stepped by one call: so many heaters, of which these are there.
+pub fn check_call(making: &Making, temperatures: &[f64], count: usize, heaters: &[Heater]) -> u8 {
+    match check_tank(making, temperatures) {
+        1 => 1,
+        _ if count > MOST_HEATERS => 2,
+        0 => heaters
+            .iter()
+            .map(check_heater)
+            .find(|number| *number != 0)
+            .unwrap_or(0),
+        number => number,
+    }
+}
+
 /// 6, 7 and 8 of 01.
 pub fn check_step(step: &Step, heaters: usize) -> u8 {
     if step.volumes.len() > MOST_EVENTS || step.set_points.len() != heaters {

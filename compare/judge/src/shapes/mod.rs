@@ -4,10 +4,12 @@ mod calls;
 mod damaged;
 mod days;
 mod edges;
+mod lent;
 mod numbers;
 mod sizes;
 
 pub use calls::mix;
+pub use lent::{lent, list, make};
 
 use crate::job::Writer;
 use crate::rng::Rng;
@@ -17,7 +19,7 @@ use days::{day, hot_feed, hysteresis, long, season};
 use edges::{edges, exact, near_ones, zeros};
 use sizes::{overflow, range, strange, tiny};
 
-/// The shapes of jobs. `long` and `season` are apart: their jobs are of 65,536 bytes.
+/// The shapes of jobs that are small enough to be stored.
 pub const JOB_SHAPES: &[&str] = &[
     "day",
     "full",
@@ -43,6 +45,17 @@ pub const SEASON: &str = "season";
 pub const PUT: &str = "put";
 /// Mixings by themselves.
 pub const MIX: &str = "mix";
+/// The same on lists of any length.
+pub const LISTS: &str = "lists";
+/// Tanks made from any numbers in one call.
+pub const MAKE: &str = "make";
+/// Steps on tanks and reports that nobody made.
+pub const LENT: &str = "lent";
+
+/// Jobs of 65,536 bytes.
+pub const LARGE_SHAPES: &[&str] = &[LONG, SEASON];
+/// Arguments of the calls make, step and mix.
+pub const CALL_SHAPES: &[&str] = &[MIX, LISTS, MAKE, LENT];
 
 /// The job of a shape and a seed.
 pub fn job(shape: &str, seed: u64) -> Vec<u8> {
