@@ -139,7 +139,7 @@ pub fn run(candidate: &mut dyn Candidate, shape: &str, from: u64, count: u64) ->
         return false;
     }
     let rate = tally.cases as f64 / begin.elapsed().as_secs_f64();
-    print!("{}", tally.words());
+    print!("no difference in {}", tally.words());
     println!("{rate:.0} cases/s");
     true
 }

@@ -96,7 +96,7 @@ impl Tally {
     /// The summary of a run.
     pub fn words(&self) -> String {
         let mut out = format!(
-            "{} cases agree: {} lines, {} without an answer of the Rust\n",
+            "{} cases: {} lines, {} without an answer of the Rust\n",
             self.cases, self.lines, self.without
         );
         out.push_str(&format!(

@@ -108,6 +108,7 @@ fn figure(name: &'static str, maker: Maker, parts: &'static [(usize, usize, Valu
 
 pub fn jobs() -> Vec<Case> {
     let mut all = of_01::of_01();
+    all.push(of_01::of_the_format());
     all.extend(refusals::refusals());
     all.extend(readings::readings());
     all

@@ -1,13 +1,16 @@
-//! Cases of document 01 itself.
+//! Cases of document 01 itself, and the one of docs/JOB_FORMAT.md.
 
 use super::Value::{Double, Word};
 use super::{both, figure, heater, plain, Case, Figure, Maker, UNSET};
 use original::probe::Making;
 
+fn two_at_40() -> Maker {
+    Maker::tank(plain(2, 40.0)).heater(heater(160.0, 0.0))
+}
+
 /// 01, Figures to hold it against, in its order.
 pub fn of_01() -> Vec<Case> {
     let four = || Maker::tank(plain(4, 60.0));
-    let two = || Maker::tank(plain(2, 40.0)).heater(heater(160.0, 0.0));
     let set = [both(50.0, 60.0)];
     vec![
         figure(
@@ -53,7 +56,7 @@ pub fn of_01() -> Vec<Case> {
         ),
         figure(
             "01: two layers at 40, 160 kW, set points 50 and 60, four steps",
-            two()
+            two_at_40()
                 .step(12.0, &[], &set)
                 .step(12.0, &[], &set)
                 .step(12.0, &[], &set)
@@ -73,7 +76,7 @@ pub fn of_01() -> Vec<Case> {
         ),
         figure(
             "01: the same with set points 41 and 42",
-            two().step(12.0, &[], &[both(41.0, 42.0)]),
+            two_at_40().step(12.0, &[], &[both(41.0, 42.0)]),
             &[
                 (1, 1, Double(42.0)),
                 (1, 2, Double(42.0)),
@@ -150,4 +153,26 @@ pub fn of_01() -> Vec<Case> {
             ])),
         },
     ]
+}
+
+/// The example of docs/JOB_FORMAT.md, worked by hand.
+pub fn of_the_format() -> Case {
+    figure(
+        "docs/JOB_FORMAT.md: a heater and a draw",
+        two_at_40().step(12.0, &[16.0], &[both(50.0, 60.0)]),
+        // The draw takes the top layer at 40 and leaves 12 under 40; 160 kWh warm 16 litres by 10.
+        &[
+            (0, 3, Double(448.0)),
+            (0, 4, Double(16.0)),
+            (0, 5, Double(40.0)),
+            (0, 6, Double(0.0)),
+            (1, 1, Double(22.0)),
+            (1, 2, Double(40.0)),
+            (2, 1, Word("1")),
+            (2, 2, Double(160.0)),
+            (2, 3, Double(160.0)),
+            (2, 4, Double(0.0)),
+            (2, 5, Word("1")),
+        ],
+    )
 }

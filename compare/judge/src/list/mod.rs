@@ -17,9 +17,11 @@ pub use test::{replay, self_test};
 
 use crate::figures;
 use crate::oracle::{self, Line};
+use crate::sample_day::sample_day;
+use crate::tally::Tally;
 use crate::{shapes, words};
 use std::fs;
-use std::path::Path;
+use std::path::{Path, PathBuf};
 
 const MOST_FILE: usize = 65_536;
 
@@ -182,11 +184,23 @@ impl Parts {
         (format!("{}-{at:02}.bin", self.stem), self.counts[at] - 1)
     }
 
-    fn save(&self, folder: &Path) {
-        for (at, bytes) in self.files.iter().enumerate() {
-            fs::write(folder.join(format!("{}-{at:02}.bin", self.stem)), bytes)
-                .expect("the folder takes a file");
-        }
+    /// The files by name.
+    fn files(self) -> impl Iterator<Item = (String, Vec<u8>)> {
+        let stem = self.stem;
+        let named = move |(at, bytes)| (format!("{stem}-{at:02}.bin"), bytes);
+        self.files.into_iter().enumerate().map(named)
+    }
+}
+
+/// Writes all files beside the old ones, then puts them in their places, so that no half file is left.
+fn save(files: &[(PathBuf, Vec<u8>)]) {
+    let fail = |path: &Path, error| -> () { crate::stop(&format!("{}: {error}", path.display())) };
+    let beside = |path: &Path| PathBuf::from(format!("{}.new", path.display()));
+    for (path, bytes) in files {
+        fs::write(beside(path), bytes).unwrap_or_else(|error| fail(path, error));
+    }
+    for (path, _) in files {
+        fs::rename(beside(path), path).unwrap_or_else(|error| fail(path, error));
     }
 }
 
@@ -216,15 +230,23 @@ pub fn mix_bytes(volume: f64, layers: &[f64], line: &str) -> Vec<u8> {
     out
 }
 
-/// Writes the list. `about` heads the index.
-pub fn write(folder: &Path, each: u64, about: &str) {
+/// What the gate's programs read and must print: `replay` all stored jobs, `job` the sample day.
+fn run_by_the_gate(crates: &Path, stored: Vec<u8>, jobs: usize, lines: usize) -> Vec<(PathBuf, Vec<u8>)> {
+    let day = sample_day();
+    let answer = words::text(&oracle::answer(&day, false, false));
+    let count = format!("{jobs} jobs, {lines} lines, 0 jobs differ\n");
+    vec![
+        (crates.join("replay/stdin"), stored),
+        (crates.join("replay/stdout"), count.into_bytes()),
+        (crates.join("job/stdin"), day),
+        (crates.join("job/stdout"), answer.into_bytes()),
+    ]
+}
+
+/// Writes the list, and what the programs `replay` and `job` read and must print in the gate, in the folder of
+/// the crates. `about` heads the index.
+pub fn write(folder: &Path, each: u64, crates: &Path, about: &str) {
     let (jobs, mixes, long) = all(folder, each);
-    for file in fs::read_dir(folder).expect("the folder is there").flatten() {
-        let name = file.file_name().to_string_lossy().into_owned();
-        if name.ends_with(".bin") || name.starts_with("long-") {
-            fs::remove_file(file.path()).expect("an old file goes");
-        }
-    }
     let mut index = String::new();
     for line in about.lines() {
         index.push_str(&format!("# {line}\n"));
@@ -233,7 +255,7 @@ pub fn write(folder: &Path, each: u64, about: &str) {
         "# Columns: file, entry in it, lines of the answer, what they rest on, name (shape and seed).\n",
     );
     let (mut plain, mut put) = (Parts::new("jobs"), Parts::new("put"));
-    let mut numbers = std::collections::BTreeMap::new();
+    let (mut replayed, mut replayed_lines) = (0, 0);
     for one in &jobs {
         let text = words::text(&one.lines);
         assert!(
@@ -241,40 +263,36 @@ pub fn write(folder: &Path, each: u64, about: &str) {
             "{}: the Rust has no answer",
             one.name
         );
-        for line in &one.lines {
-            let words: Vec<&str> = line.text.split(' ').collect();
-            match words[0] {
-                "S" => *numbers.entry(format!("S {:>2}", words[2])).or_insert(0) += 1,
-                "E" => *numbers.entry(format!("E {:>2}", words[1])).or_insert(0) += 1,
-                _ => {}
-            }
-        }
         let mut bytes = Vec::new();
         framed(&one.job, &mut bytes);
         framed(text.as_bytes(), &mut bytes);
         let (file, at) = if one.put { &mut put } else { &mut plain }.push(&bytes);
         let lines = one.lines.len();
+        if !one.put {
+            (replayed, replayed_lines) = (replayed + 1, replayed_lines + lines);
+        }
         index.push_str(&format!(
             "{file} {at} {lines} [{}] {}\n",
             marks(&one.lines),
             one.name
         ));
     }
-    plain.save(folder);
-    put.save(folder);
     let mut parts = Parts::new("mix");
     for one in &mixes {
         let (file, at) = parts.push(&mix_bytes(one.volume, &one.layers, &one.line.text));
-        let number = one.line.text.split(' ').nth(1).expect("a number").to_string();
-        *numbers.entry(format!("M {number:>2}")).or_insert(0) += 1;
         let lines = std::slice::from_ref(&one.line);
         index.push_str(&format!("{file} {at} 1 [{}] {}\n", marks(lines), one.name));
     }
-    parts.save(folder);
+    let mut files = run_by_the_gate(crates, plain.files.concat(), replayed, replayed_lines);
+    for (name, bytes) in plain.files().chain(put.files()).chain(parts.files()) {
+        files.push((folder.join(name), bytes));
+    }
     for (at, one) in long.iter().enumerate() {
-        fs::write(folder.join(format!("long-{at}.job")), &one.job).expect("the folder takes a file");
-        fs::write(folder.join(format!("long-{at}.txt")), words::text(&one.lines))
-            .expect("the folder takes a file");
+        files.push((folder.join(format!("long-{at}.job")), one.job.clone()));
+        files.push((
+            folder.join(format!("long-{at}.txt")),
+            words::text(&one.lines).into_bytes(),
+        ));
         let lines = one.lines.len();
         index.push_str(&format!(
             "long-{at}.job 0 {lines} [{}] {}\n",
@@ -282,14 +300,30 @@ pub fn write(folder: &Path, each: u64, about: &str) {
             one.name
         ));
     }
-    fs::write(folder.join("index.txt"), index).expect("the folder takes a file");
+    files.push((folder.join("index.txt"), index.into_bytes()));
+    save(&files);
+    for file in fs::read_dir(folder).expect("the folder is there").flatten() {
+        let path = file.path();
+        let name = file.file_name().to_string_lossy().into_owned();
+        let of_list = name.ends_with(".bin") || name.starts_with("long-");
+        if of_list && files.iter().all(|(kept, _)| *kept != path) {
+            fs::remove_file(&path).expect("an old file goes");
+        }
+    }
+    let mut tally = Tally::default();
+    for one in &jobs {
+        tally.job(&one.job, one.put, &one.lines);
+    }
+    for one in &mixes {
+        tally.lines(std::slice::from_ref(&one.line));
+    }
+    let in_list = files.iter().filter(|(path, _)| path.starts_with(folder));
     println!(
-        "{} jobs, {} mixings, {} long jobs",
+        "{} jobs, {} mixings, {} long jobs, {} bytes",
         jobs.len(),
         mixes.len(),
-        long.len()
+        long.len(),
+        in_list.map(|(_, bytes)| bytes.len()).sum::<usize>()
     );
-    for (number, count) in numbers {
-        println!("  {number}: {count}");
-    }
+    print!("{}", tally.words());
 }

@@ -1,6 +1,7 @@
 //! The stored list, held against a candidate and against the judge.
 
 use super::stored::{stored, Kind, Stored};
+use super::{framed, run_by_the_gate};
 use crate::candidate::Candidate;
 use crate::figures::{self, Value};
 use crate::oracle::{self, Line};
@@ -51,11 +52,32 @@ pub fn replay(folder: &Path, candidate: &mut dyn Candidate) -> bool {
     same > 0
 }
 
+/// What the gate's programs read and must print is the stored list and the sample day.
+fn gate_test(list: &[Stored], crates: &Path) -> bool {
+    let mut bytes = Vec::new();
+    let (mut jobs, mut lines) = (0, 0);
+    for one in list.iter().filter(|one| one.name.starts_with("jobs")) {
+        let Kind::Job(job) = &one.kind else { continue };
+        framed(job, &mut bytes);
+        framed(one.expected.as_bytes(), &mut bytes);
+        (jobs, lines) = (jobs + 1, lines + one.expected.lines().count());
+    }
+    let mut fine = true;
+    for (path, expected) in run_by_the_gate(crates, bytes, jobs, lines) {
+        if std::fs::read(&path).ok() != Some(expected) {
+            println!("{}: not what compare/make-list writes", path.display());
+            fine = false;
+        }
+    }
+    println!("the gate's programs run the stored list and the sample day: {fine}");
+    fine
+}
+
 /// The list must say what the judge says now, whole and in parts, and 01's figures; and each wrong stand-in
 /// must change some answer.
-pub fn self_test(folder: &Path) -> bool {
+pub fn self_test(folder: &Path, crates: &Path) -> bool {
     let list = stored(folder);
-    let mut fine = !list.is_empty();
+    let mut fine = !list.is_empty() && gate_test(&list, crates);
     for one in &list {
         for in_parts in [false, true] {
             if again(one, in_parts) != one.expected {
@@ -108,7 +130,7 @@ pub fn self_test(folder: &Path) -> bool {
             fine = false;
         }
     }
-    println!("{figures} figures of 01 are the judge's: {fine}");
+    println!("{figures} figures of 01 and docs/JOB_FORMAT.md are the judge's: {fine}");
 
     for (kind, name) in [
         (recorder::PLAIN_SUM, "a plain sum for Sum2"),
