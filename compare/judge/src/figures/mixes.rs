@@ -52,6 +52,7 @@ pub fn mixes() -> Vec<MixCase> {
             &[-10.61, -10.609_999_989_39],
             None,
         ),
+        plain("one layer, infinite", &[inf], None),
         plain("1 under infinity", &[1.0, inf], None),
         plain("infinity under infinity", &[inf, inf], None),
         plain("-infinity under 1", &[-inf, 1.0], None),
@@ -84,6 +85,18 @@ pub fn mixes() -> Vec<MixCase> {
             name: "volume 0",
             volume: 0.0,
             layers: vec![20.0],
+            figure: None,
+        },
+        MixCase {
+            name: "volume -0.0",
+            volume: -0.0,
+            layers: vec![20.0],
+            figure: None,
+        },
+        MixCase {
+            name: "volume infinite",
+            volume: inf,
+            layers: vec![50.0, 40.0],
             figure: None,
         },
         MixCase {

@@ -1,7 +1,9 @@
 //! Cases made by hand: document 01's figures, the smallest input for each refusal, and for each place where a
 //! reading shows in a last bit or the sign of a zero.
 
+mod damage;
 mod mixes;
+mod numbers;
 mod of_01;
 mod readings;
 mod refusals;
@@ -12,7 +14,7 @@ use crate::job::{Step, Writer};
 use original::probe::{Heater, Making, SetPoints};
 
 pub struct Case {
-    pub name: &'static str,
+    pub name: String,
     pub bytes: Vec<u8>,
     /// What 01 itself prints for this case, where it says so.
     pub figure: Option<Figure>,
@@ -59,10 +61,18 @@ struct Maker {
 }
 
 impl Maker {
-    fn tank(making: Making) -> Maker {
-        let mut writer = Writer::default();
-        writer.tank(&making);
+    fn nothing() -> Maker {
+        let writer = Writer::default();
         Maker { writer }
+    }
+
+    fn tank(making: Making) -> Maker {
+        Maker::nothing().also_tank(making)
+    }
+
+    fn also_tank(mut self, making: Making) -> Maker {
+        self.writer.tank(&making);
+        self
     }
 
     fn heater(mut self, heater: Heater) -> Maker {
@@ -85,22 +95,35 @@ impl Maker {
         self
     }
 
+    /// Without its last so many bytes.
+    fn cut(mut self, bytes: usize) -> Maker {
+        let length = self.writer.bytes.len() - bytes;
+        self.writer.bytes.truncate(length);
+        self
+    }
+
+    /// And these bytes, whatever they are.
+    fn and(mut self, bytes: &[u8]) -> Maker {
+        self.writer.bytes.extend_from_slice(bytes);
+        self
+    }
+
     fn bytes(self) -> Vec<u8> {
         self.writer.bytes
     }
 }
 
-fn case(name: &'static str, maker: Maker) -> Case {
+fn case(name: impl Into<String>, maker: Maker) -> Case {
     Case {
-        name,
+        name: name.into(),
         bytes: maker.bytes(),
         figure: None,
     }
 }
 
-fn figure(name: &'static str, maker: Maker, parts: &'static [(usize, usize, Value)]) -> Case {
+fn figure(name: &str, maker: Maker, parts: &'static [(usize, usize, Value)]) -> Case {
     Case {
-        name,
+        name: name.to_string(),
         bytes: maker.bytes(),
         figure: Some(Figure(parts)),
     }
@@ -110,6 +133,8 @@ pub fn jobs() -> Vec<Case> {
     let mut all = of_01::of_01();
     all.push(of_01::of_the_format());
     all.extend(refusals::refusals());
+    all.extend(numbers::numbers());
+    all.extend(damage::damage());
     all.extend(readings::readings());
     all
 }

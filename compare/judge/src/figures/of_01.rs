@@ -144,7 +144,7 @@ pub fn of_01() -> Vec<Case> {
             ],
         ),
         Case {
-            name: "01: empty input",
+            name: "01: empty input".to_string(),
             bytes: Vec::new(),
             figure: Some(Figure(&[
                 (0, 0, Word("E")),

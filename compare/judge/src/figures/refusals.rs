@@ -1,7 +1,6 @@
 //! Cases for each refusal.
 
 use super::{both, case, heater, plain, Case, Maker, UNSET};
-use crate::job::Writer;
 use original::probe::{Heater, Making, SetPoints};
 
 /// The smallest input for each refusal, and its nearest accepted neighbour.
@@ -140,59 +139,35 @@ pub fn refusals() -> Vec<Case> {
             .heater(heater(1000.0, 0.0))
             .step(12.0, &[], &[both(30.0, 150.0)]),
         ),
-        case("11: cut short", Maker::tank(one()).record(3, &[0; 9])),
-        case("11: unknown kind", Maker::tank(one()).record(4, &[0; 10])),
         case(
-            "11: a second tank",
-            Maker {
-                writer: {
-                    let mut writer = Writer::default();
-                    writer.tank(&one());
-                    writer.tank(&one());
-                    writer
-                },
-            },
+            "9: the mixing after an event, its mean too large",
+            Maker::tank(plain(2, 1e307)).step(1.7e308, &[1.0], &[]),
         ),
         case(
-            "11: a heater before the tank",
-            Maker {
-                writer: Writer::default(),
-            }
-            .heater(heater(1.0, 0.0)),
+            "9: the mixing after the second event",
+            Maker::tank(plain(2, 1e307)).step(1.7e308, &[0.0, 1.0], &[]),
         ),
         case(
-            "11: a step before the tank",
-            Maker {
-                writer: Writer::default(),
-            }
-            .step(12.0, &[], &[]),
+            "10 after an event: its layer too large, all else finite",
+            Maker::tank(plain(1, 1e307)).step(1e308, &[1.0], &[]),
         ),
         case(
-            "11: a heater after a refused step",
-            Maker::tank(one()).step(nan, &[], &[]).heater(heater(1.0, 0.0)),
+            "10 after the second event: the volume used too large, all else finite",
+            Maker::tank(Making {
+                volume: 1e308,
+                ..plain(1, 1.0)
+            })
+            .step(1.0, &[1e308, 1e308], &[]),
         ),
         case(
-            "11: presence byte 2 in a heater",
-            Maker::tank(one()).record(2, &{
-                let mut body = [0; 25];
-                body[16] = 2;
-                body
-            }),
-        ),
-        case(
-            "11: presence byte 4 in a step",
-            Maker::tank(one()).heater(heater(1.0, 0.0)).record(3, &{
-                let mut body = [0; 27];
-                body[10] = 4;
-                body
-            }),
-        ),
-        case(
-            "11: a tank one byte longer",
-            Maker {
-                writer: Writer::default(),
-            }
-            .record(1, &[0; 59]),
+            "10 after the second turn",
+            Maker::tank(Making {
+                standby: 1e305,
+                ..one()
+            })
+            .heater(heater(1.0, 0.0))
+            .heater(heater(1e6, 0.0))
+            .step(12.0, &[], &[UNSET, both(50.0, 1e5)]),
         ),
         case("a tank alone", Maker::tank(one())),
         case(

@@ -79,7 +79,7 @@ fn chosen(text: &str) -> Vec<(String, u64, String)> {
 pub fn all(folder: &Path, each: u64) -> (Vec<Entry>, Vec<Mixing>, Vec<Entry>) {
     let mut jobs: Vec<Entry> = figures::jobs()
         .into_iter()
-        .map(|case| entry(case.name.to_string(), false, case.bytes))
+        .map(|case| entry(case.name, false, case.bytes))
         .collect();
     let mut mixes: Vec<Mixing> = figures::mixes()
         .into_iter()
@@ -117,7 +117,8 @@ pub fn all(folder: &Path, each: u64) -> (Vec<Entry>, Vec<Mixing>, Vec<Entry>) {
         let (volume, layers) = shapes::mix(seed);
         mixes.push(mixing(format!("mix {seed}"), volume, layers));
     }
-    let long = (1_000_000..1_000_002)
+    // In the first a record crosses the line at 65,536 bytes, in the second one ends on it.
+    let long = (1_000_001..1_000_003)
         .map(|seed| entry(format!("long {seed}"), false, shapes::job(shapes::LONG, seed)))
         .collect();
     (jobs, mixes, long)
