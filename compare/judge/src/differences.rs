@@ -1,8 +1,9 @@
 //! Where the Rust and document 01 part: the smallest inputs, run on the Rust without 01's checks.
 
+use crate::checks::{check_call, check_step};
 use crate::figures::{both, heater, plain, UNSET};
 use crate::job::Step;
-use crate::oracle::{check_call, check_step, Judged, Outcome};
+use crate::oracle::{Judged, Outcome};
 use original::probe::{Failed, Heater, Making, SetPoints, State, Tank};
 
 #[derive(Clone, Copy, Debug, PartialEq)]

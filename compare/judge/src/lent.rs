@@ -3,8 +3,9 @@
 //! A tank, a report and a step's arguments are the arrays of the crate `shim` (compare/README.md has their
 //! layout). Numbers 1 to 8 and what a refused call leaves are 01's; what an accepted step gives is the Rust's.
 
+use crate::checks::check_call;
 use crate::job::{Step, MOST_EVENTS, MOST_HEATERS, MOST_LAYERS};
-use crate::oracle::{check_call, Judged, Line, Outcome};
+use crate::oracle::{Judged, Line, Outcome};
 use original::probe::{Heater, Making, State};
 
 /// A tank's places.

@@ -1,5 +1,6 @@
 mod against;
 mod candidate;
+mod checks;
 mod damage;
 mod differences;
 mod figures;
