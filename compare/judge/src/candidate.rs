@@ -12,6 +12,12 @@ use std::time::{Duration, Instant};
 pub trait Candidate {
     fn job(&mut self, bytes: &[u8]) -> Option<String>;
 
+    /// A job that comes in pieces of so many bytes, as through a slow line.
+    fn job_in_pieces(&mut self, bytes: &[u8], size: usize) -> Option<String> {
+        let _ = (bytes, size);
+        None
+    }
+
     /// A job with records that put in layers and flags.
     fn put(&mut self, bytes: &[u8]) -> Option<String> {
         let _ = bytes;
@@ -148,10 +154,9 @@ impl Program {
             running,
         }
     }
-}
 
-impl Candidate for Program {
-    fn job(&mut self, bytes: &[u8]) -> Option<String> {
+    /// Runs it on these bytes, written in pieces of so many, with a pause between them.
+    fn run(&mut self, bytes: &[u8], size: usize) -> String {
         let words: Vec<&str> = self.words.iter().map(|word| word.as_str()).collect();
         let mut child = start(&words);
         let mut to = child.stdin.take().expect("it is piped");
@@ -160,7 +165,14 @@ impl Candidate for Program {
         let bytes = bytes.to_vec();
         // A program may stop reading at 65,536 bytes: a broken pipe is no fault.
         let writer = std::thread::spawn(move || {
-            let _ = to.write_all(&bytes);
+            for (at, piece) in bytes.chunks(size).enumerate() {
+                if at > 0 {
+                    std::thread::sleep(Duration::from_micros(50));
+                }
+                if to.write_all(piece).is_err() {
+                    return;
+                }
+            }
         });
         let mut text = Vec::new();
         from.read_to_end(&mut text).expect("a pipe can be read");
@@ -173,6 +185,16 @@ impl Candidate for Program {
         if status.code().is_none() {
             text.push_str(&format!("the program was ended by a signal: {status}\n"));
         }
-        Some(text)
+        text
+    }
+}
+
+impl Candidate for Program {
+    fn job(&mut self, bytes: &[u8]) -> Option<String> {
+        Some(self.run(bytes, bytes.len().max(1)))
+    }
+
+    fn job_in_pieces(&mut self, bytes: &[u8], size: usize) -> Option<String> {
+        Some(self.run(bytes, size))
     }
 }

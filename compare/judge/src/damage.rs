@@ -1,9 +1,10 @@
 //! Damaged jobs, all of them: every input of up to 2 bytes, and of good jobs every prefix and every change of one
-//! byte.
+//! byte. And jobs that come in pieces, which are not damaged.
 
 use crate::candidate::Candidate;
 use crate::figures;
 use crate::oracle;
+use crate::shapes;
 use crate::tally::Tally;
 use crate::words;
 use std::time::Instant;
@@ -15,6 +16,8 @@ const SMALL_JOBS: &[&str] = &[
     "docs/JOB_FORMAT.md: a heater and a draw",
     "switched off by its own turn, not by the step's last layers",
 ];
+
+const PIECES: &[usize] = &[1, 2, 3, 5, 7, 64, 1000, 4096, 40_000];
 
 fn job_named(name: &str) -> Vec<u8> {
     let case = figures::jobs().into_iter().find(|case| case.name == name);
@@ -36,8 +39,12 @@ impl Run<'_> {
             println!("the candidate reads no jobs");
             return false;
         };
+        self.agree(name, bytes, &theirs)
+    }
+
+    fn agree(&mut self, name: &str, bytes: &[u8], theirs: &str) -> bool {
         let ours = oracle::answer(bytes, false, false);
-        if let Some(difference) = words::difference(&ours, &theirs) {
+        if let Some(difference) = words::difference(&ours, theirs) {
             println!("first difference: {name}\n{difference}\nthe input:\n{bytes:02x?}");
             return false;
         }
@@ -47,6 +54,17 @@ impl Run<'_> {
             eprintln!("  {} inputs agree; at {name}", self.tally.cases);
         }
         true
+    }
+
+    /// Runs a part and says how many inputs it had.
+    fn part(&mut self, what: &str, work: impl FnOnce(&mut Self) -> bool) -> bool {
+        let before = self.tally.cases;
+        let fine = work(self);
+        let count = self.tally.cases - before;
+        if fine && count > 0 {
+            println!("{count} inputs: {what}");
+        }
+        fine
     }
 
     fn short_inputs(&mut self) -> bool {
@@ -63,6 +81,16 @@ impl Run<'_> {
     fn prefixes(&mut self, name: &str, job: &[u8]) -> bool {
         (0..=job.len())
             .all(|length| self.input(&format!("the first {length} bytes of {name}"), &job[..length]))
+    }
+
+    /// The same answer however the bytes come; a server has no such call.
+    fn pieces(&mut self, name: &str, job: &[u8]) -> bool {
+        PIECES
+            .iter()
+            .all(|size| match self.candidate.job_in_pieces(job, *size) {
+                None => true,
+                Some(theirs) => self.agree(&format!("{name} in pieces of {size} bytes"), job, &theirs),
+            })
     }
 
     fn one_byte(&mut self, name: &str, job: &[u8]) -> bool {
@@ -88,29 +116,21 @@ pub fn run(candidate: &mut dyn Candidate, name: &str, job: &[u8]) -> bool {
         tally: Tally::default(),
         last: Instant::now(),
     };
-    let mut counted = 0;
-    let mut fine = run.short_inputs();
-    let mut say = |run: &Run, what: String| {
-        println!("{} inputs: {what}", run.tally.cases - counted);
-        counted = run.tally.cases;
-    };
-    if fine {
-        say(&run, "all of 0, 1 and 2 bytes".to_string());
-    }
+    let mut fine = run.part("all of 0, 1 and 2 bytes", |run| run.short_inputs());
     for name in SMALL_JOBS {
         let job = job_named(name);
-        fine = fine && run.prefixes(name, &job) && run.one_byte(name, &job);
-        if fine {
-            let length = job.len();
-            say(
-                &run,
-                format!("every prefix and every other value of every byte of '{name}' ({length} bytes)"),
-            );
-        }
+        let what = format!(
+            "every prefix and every other value of every byte of '{name}' ({} bytes)",
+            job.len()
+        );
+        fine = fine && run.part(&what, |run| run.prefixes(name, &job) && run.one_byte(name, &job));
     }
-    fine = fine && run.prefixes(name, job);
-    if fine {
-        say(&run, format!("every prefix of {name} ({} bytes)", job.len()));
+    let what = format!("every prefix of {name} ({} bytes)", job.len());
+    fine = fine && run.part(&what, |run| run.prefixes(name, job));
+    let long = ("a job past 65,536 bytes", shapes::job(shapes::LONG, 0));
+    for (name, job) in [(name, job.to_vec()), long] {
+        let what = format!("{name} in pieces of {PIECES:?} bytes");
+        fine = fine && run.part(&what, |run| run.pieces(name, &job));
     }
     if fine {
         print!("no difference in {}", run.tally.words());
