@@ -105,6 +105,12 @@ pub fn damage() -> Vec<Case> {
             tank().step(12.0, &[], &[]).and(&[0]),
         ),
     ];
+    // Right in its first byte.
+    let body = tank().bytes()[6..].to_vec();
+    all.push(case(
+        "11: kind 257 with a tank's body",
+        Maker::nothing().record(257, &body),
+    ));
     for kind in [0, 4, 256, 512, 768, 0xffff] {
         all.push(case(
             format!("11: unknown kind {kind}"),

@@ -169,6 +169,17 @@ pub fn refusals() -> Vec<Case> {
             .heater(heater(1e6, 0.0))
             .step(12.0, &[], &[UNSET, both(50.0, 1e5)]),
         ),
+        case(
+            "9 in the second turn: the first heater, which came on in its own, is off in the next step",
+            Maker::tank(Making {
+                specific_heat: 1e-10,
+                ..plain(2, 40.0)
+            })
+            .heater(heater(1.6e-8, 0.0))
+            .heater(heater(1e308, 0.0))
+            .step(12.0, &[], &[both(50.0, 60.0), both(50.0, 60.0)])
+            .step(12.0, &[], &[both(10.0, 60.0), UNSET]),
+        ),
         case("a tank alone", Maker::tank(one())),
         case(
             "a tank and a heater alone",
