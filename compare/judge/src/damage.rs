@@ -70,12 +70,10 @@ impl Run<'_> {
     fn short_inputs(&mut self) -> bool {
         let one = |a: u8| vec![a];
         let two = |a: u8| (0..=255).map(move |b: u8| vec![a, b]);
-        let all = std::iter::once(Vec::new())
+        let mut all = std::iter::once(Vec::new())
             .chain((0..=255).map(one))
             .chain((0..=255).flat_map(two));
-        all.fold(true, |fine, bytes| {
-            fine && self.input(&format!("the input {bytes:02x?}"), &bytes)
-        })
+        all.all(|bytes| self.input(&format!("the input {bytes:02x?}"), &bytes))
     }
 
     fn prefixes(&mut self, name: &str, job: &[u8]) -> bool {
