@@ -7,7 +7,8 @@ In one place, marked, it follows the Rust where those words leave the sign of a 
     model.py serve      answers many requests, for `judge against`
 
 A request is one byte (J job, P job with put records, M mix), a 4-byte length and the bytes; the answer is a
-4-byte length and the lines. A mix is the layer volume and the layers, as doubles.
+4-byte length and the lines, or 2^32 - 1 for a call that is not here. A mix is the layer volume and the layers, as
+doubles.
 """
 
 import struct
@@ -497,6 +498,10 @@ def serve(source, sink):
             return
         kind, length = struct.unpack("<cI", head)
         data = source.read(length)
+        if kind not in b"JPM":
+            sink.write(b"\xff\xff\xff\xff")
+            sink.flush()
+            continue
         lines = [mix_line(data)] if kind == b"M" else job_lines(data, kind == b"P")
         text = "".join(line + "\n" for line in lines).encode()
         sink.write(struct.pack("<I", len(text)) + text)

@@ -15,6 +15,9 @@ import sys
 import tempfile
 
 HERE = os.path.dirname(os.path.abspath(__file__))
+sys.path.insert(0, HERE)
+sys.dont_write_bytecode = True
+from mutants_job import JOB_MUTANTS
 
 # Name, then old and new text, once or more.
 #
@@ -135,19 +138,21 @@ SHAPES = ["mix", "zeros", "near", "exact", "put", "range", "overflow", "hot-feed
 
 
 def difference(judge, words, model):
-    """What `judge` prints of the first difference, or nothing."""
+    """What `judge` prints of the first difference, or nothing; a model that stops shows nothing."""
     command = [judge] + words + ["server", sys.executable, model, "serve"]
     if words[0] == "against":
         command = [judge, "against", "server"] + words[1:] + [sys.executable, model, "serve"]
     run = subprocess.run(command, stdout=subprocess.PIPE, stderr=subprocess.PIPE, text=True)
-    if run.returncode == 0:
-        return None
-    return (run.stdout.splitlines() or ["the model stopped"])[0]
+    if run.returncode == 1:
+        return run.stdout.splitlines()[0]
+    if run.returncode != 0:
+        print("the judge or the model stopped: " + run.stderr, file=sys.stderr)
+    return None
 
 
 def main():
     mode, judge, where = sys.argv[1:4]
-    chosen = [mutant for mutant in MUTANTS if all(words in mutant[0] for words in sys.argv[4:])]
+    chosen = [mutant for mutant in MUTANTS + JOB_MUTANTS if all(words in mutant[0] for words in sys.argv[4:])]
     source = open(os.path.join(HERE, "model.py")).read()
     unseen = 0
     for number, (name, *texts) in enumerate(chosen):

@@ -1,48 +1,108 @@
-//! Random jobs by seed: the judge's answers beside a candidate's.
+//! Random cases by seed: the judge's answers beside a candidate's.
 
 use crate::candidate::Candidate;
-use crate::oracle::{self, Line};
-use crate::{shapes, words};
+use crate::oracle;
+use crate::tally::Tally;
+use crate::{lent, shapes, words};
 use std::time::Instant;
 
-pub fn shapes_of(name: &str) -> Vec<&'static str> {
-    let every = shapes::JOB_SHAPES
-        .iter()
-        .chain(&[shapes::LONG, shapes::PUT, shapes::MIX])
-        .copied();
-    let chosen: Vec<&str> = every.filter(|shape| name == "all" || name == *shape).collect();
-    assert!(!chosen.is_empty(), "unknown shape {name}");
-    chosen
+/// The shapes named, with commas between them, or all.
+pub fn shapes_of(names: &str) -> Vec<&'static str> {
+    let every: Vec<&str> = [
+        shapes::JOB_SHAPES,
+        shapes::LARGE_SHAPES,
+        &[shapes::PUT],
+        shapes::CALL_SHAPES,
+    ]
+    .concat();
+    if names == "all" {
+        return every;
+    }
+    names
+        .split(',')
+        .map(|name| {
+            *every
+                .iter()
+                .find(|shape| **shape == name)
+                .unwrap_or_else(|| crate::stop(&format!("no shape {name}; there are {}", every.join(", "))))
+        })
+        .collect()
 }
 
-/// What the judge and the candidate say of one case; nothing where the candidate has no such call.
-pub fn case(shape: &str, seed: u64, candidate: &mut dyn Candidate) -> Option<(Vec<Line>, String)> {
+/// The mixing of a shape and a seed.
+fn mixing(shape: &str, seed: u64) -> (f64, Vec<f64>) {
+    if shape == shapes::MIX {
+        shapes::mix(seed)
+    } else {
+        shapes::list(seed)
+    }
+}
+
+/// Asks judge and candidate of one case and counts it, unless the candidate has no such call. The first difference.
+fn case(shape: &str, seed: u64, candidate: &mut dyn Candidate, tally: &mut Tally) -> Option<String> {
     match shape {
-        shapes::MIX => {
-            let (volume, layers) = shapes::mix(seed);
+        shapes::MIX | shapes::LISTS => {
+            let (volume, layers) = mixing(shape, seed);
             let theirs = candidate.mix(volume, &layers)?;
-            Some((vec![oracle::mix_line(volume, &layers)], theirs))
+            let ours = vec![oracle::mix_line(volume, &layers)];
+            tally.lines(&ours);
+            words::difference(&ours, &theirs)
         }
-        shapes::PUT => {
-            let bytes = shapes::job(shape, seed);
-            let theirs = candidate.put(&bytes)?;
-            Some((oracle::answer(&bytes, true, false), theirs))
+        shapes::MAKE => {
+            let (initial, tank) = shapes::make(seed);
+            let theirs = candidate.make(&lent::make_request(initial, &tank))?;
+            let ours = lent::make(initial, &tank);
+            tally.lines(&ours);
+            words::difference(&ours, &theirs)
+        }
+        shapes::LENT => {
+            let (mut tank, mut report, steps) = shapes::lent(seed);
+            for step in &steps {
+                let theirs = candidate.lent(&lent::step_request(&tank, &report, step))?;
+                let (ours, accepted) = lent::step(&mut tank, &mut report, step);
+                tally.lines(&ours);
+                if accepted {
+                    let volumes = &step.volumes[..step.asked[0] as usize];
+                    let supplied = report.figures[1].iter().any(|x| *x > 0.0);
+                    tally.step(
+                        tank.counts[0] as usize,
+                        tank.counts[1] as usize,
+                        volumes,
+                        supplied,
+                    );
+                }
+                if let Some(difference) = words::difference(&ours, &theirs) {
+                    return Some(difference);
+                }
+            }
+            None
         }
         _ => {
             let bytes = shapes::job(shape, seed);
-            let theirs = candidate.job(&bytes)?;
-            Some((oracle::answer(&bytes, false, false), theirs))
+            let put = shape == shapes::PUT;
+            let theirs = if put {
+                candidate.put(&bytes)?
+            } else {
+                candidate.job(&bytes)?
+            };
+            let ours = oracle::answer(&bytes, put, false);
+            tally.job(&bytes, put, &ours);
+            words::difference(&ours, &theirs)
         }
     }
 }
 
 /// The case in words.
 pub fn tell(shape: &str, seed: u64) -> String {
-    if shape == shapes::MIX {
-        let (volume, layers) = shapes::mix(seed);
-        return format!("  layer volume {volume:?}, layers {layers:?}\n");
+    match shape {
+        shapes::MIX | shapes::LISTS => {
+            let (volume, layers) = mixing(shape, seed);
+            format!("  layer volume {volume:?}, layers {layers:?}\n")
+        }
+        shapes::MAKE => format!("  initial temperature and tank: {:?}\n", shapes::make(seed)),
+        shapes::LENT => format!("  tank, report and steps: {:?}\n", shapes::lent(seed)),
+        _ => words::job(&shapes::job(shape, seed)),
     }
-    words::job(&shapes::job(shape, seed))
 }
 
 /// Seeds `from` to `from + count` of each shape. True if there was no difference.
@@ -50,21 +110,14 @@ pub fn run(candidate: &mut dyn Candidate, shape: &str, from: u64, count: u64) ->
     let chosen = shapes_of(shape);
     let begin = Instant::now();
     let mut last = Instant::now();
-    let (mut cases, mut lines, mut by_01, mut without) = (0u64, 0, 0, 0);
+    let mut tally = Tally::default();
     for seed in from..from + count {
         for shape in &chosen {
-            // Long jobs are slow to read; one in twenty seeds has one.
-            if *shape == shapes::LONG && chosen.len() > 1 && seed % 20 != 0 {
+            // Among other shapes, one in twenty seeds has a large one.
+            if shapes::LARGE_SHAPES.contains(shape) && chosen.len() > 1 && seed % 20 != 0 {
                 continue;
             }
-            let Some((ours, theirs)) = case(shape, seed, candidate) else {
-                continue;
-            };
-            cases += 1;
-            lines += ours.len();
-            by_01 += ours.iter().filter(|line| line.by_01).count();
-            without += ours.iter().filter(|line| line.text.contains("no answer")).count();
-            if let Some(difference) = words::difference(&ours, &theirs) {
+            if let Some(difference) = case(shape, seed, candidate, &mut tally) {
                 println!("first difference: shape {shape}, seed {seed}\n{difference}");
                 println!("the case:\n{}", tell(shape, seed));
                 return false;
@@ -72,13 +125,21 @@ pub fn run(candidate: &mut dyn Candidate, shape: &str, from: u64, count: u64) ->
             if last.elapsed().as_secs() >= 5 {
                 last = Instant::now();
                 eprintln!(
-                    "  seed {seed} of {}: {cases} cases, {lines} lines agree",
-                    from + count
+                    "  seed {seed} of {}: {} cases, {} lines, {} accepted steps agree",
+                    from + count,
+                    tally.cases,
+                    tally.lines,
+                    tally.accepted
                 );
             }
         }
     }
-    let rate = cases as f64 / begin.elapsed().as_secs_f64();
-    println!("{cases} cases agree: {lines} lines, {by_01} of them resting on 01, {without} without an answer of the Rust; {rate:.0} cases/s");
+    if tally.cases == 0 {
+        println!("nothing was compared: the candidate has no such call");
+        return false;
+    }
+    let rate = tally.cases as f64 / begin.elapsed().as_secs_f64();
+    print!("no difference in {}", tally.words());
+    println!("{rate:.0} cases/s");
     true
 }

@@ -1,7 +1,9 @@
 //! Where the Rust and document 01 part: the smallest inputs, run on the Rust without 01's checks.
 
-use crate::job::{Step, MOST_HEATERS};
-use crate::oracle::{check_heater, check_step, check_tank, Judged, Outcome};
+use crate::checks::{check_call, check_step};
+use crate::figures::{both, heater, plain, UNSET};
+use crate::job::Step;
+use crate::oracle::{Judged, Outcome};
 use original::probe::{Failed, Heater, Making, SetPoints, State, Tank};
 
 #[derive(Clone, Copy, Debug, PartialEq)]
@@ -24,29 +26,6 @@ pub struct Difference {
     put: Option<State>,
     step: Step,
 }
-
-fn plain(layers: usize, initial: f64) -> Making {
-    Making {
-        layers,
-        volume: 16.0 * layers as f64,
-        standby: 0.0,
-        initial,
-        density: 1.0,
-        specific_heat: 1.0,
-        ambient: 20.0,
-        step: 1.0,
-    }
-}
-
-fn heater(rated: f64, position: f64) -> Heater {
-    Heater {
-        rated,
-        position,
-        thermostat: None,
-    }
-}
-
-const UNSET: SetPoints = (None, None);
 
 struct Maker(Difference);
 
@@ -98,7 +77,6 @@ pub fn all() -> Vec<Difference> {
     use Rust::*;
     let nan = f64::NAN;
     let inf = f64::INFINITY;
-    let both = |lower: f64, upper: f64| (Some(lower), Some(upper));
     let nine = |maker: Maker| (0..9).fold(maker, |maker, _| maker.heater(heater(1.0, 0.0), UNSET));
     let made = vec![
         differ("no layers", 1, Errs).tank(|m| (m.layers, m.volume) = (0, 16.0)),
@@ -221,16 +199,7 @@ fn number_of_01(case: &Difference) -> u8 {
         Some(state) => &state.layers[..],
         None => &initial,
     };
-    let mut number = match check_tank(&case.making, temperatures) {
-        1 => 1,
-        _ if case.heaters.len() > MOST_HEATERS => 2,
-        number => number,
-    };
-    for heater in &case.heaters {
-        if number == 0 {
-            number = check_heater(heater);
-        }
-    }
+    let mut number = check_call(&case.making, temperatures, case.heaters.len(), &case.heaters);
     if number == 0 {
         number = check_step(&case.step, case.heaters.len());
     }

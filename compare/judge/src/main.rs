@@ -1,12 +1,17 @@
 mod against;
 mod candidate;
+mod checks;
+mod damage;
 mod differences;
 mod figures;
 mod job;
+mod lent;
 mod list;
 mod oracle;
 mod rng;
+mod sample_day;
 mod shapes;
+mod tally;
 mod words;
 
 use std::io::{Read, Write};
@@ -16,12 +21,15 @@ judge answer                                  a job from standard input, its lin
 judge answer put                              the same, with records that put in layers and flags (kind 256)
 judge mix VOLUME LAYER...                     a mixing of layers of this volume, bottom first
 judge make SHAPE SEED                         the bytes of a random job
+judge sample-day                              the bytes of the sample day (judge/src/sample_day.rs)
 judge show SHAPE SEED                         the same in words
-judge against server SHAPE FROM N COMMAND...  N seeds of a shape, or of all, against a process that answers requests
+judge against server SHAPE FROM N COMMAND...  N seeds of a shape (several: with commas; or all) against a process that answers requests
 judge against program SHAPE FROM N COMMAND... the same against a program started for each job
-judge list write FOLDER EACH                  writes the stored list, EACH random jobs of each shape
+judge damage JOB server|program COMMAND...    every short input, prefix and change of one byte, and every prefix of the file JOB
+judge list write FOLDER EACH CRATES           writes the stored list, EACH random jobs of each shape, and in the folder CRATES
+                                              what the programs `replay` and `job` read and must print
 judge list export FOLDER TO                   the list as what programs read and must print, into the folder TO
-judge list test FOLDER                        the list says what the judge says, and wrong stand-ins change it
+judge list test FOLDER CRATES                 all that `list write` writes says what the judge says, and wrong stand-ins change it
 judge list replay FOLDER server COMMAND...    the list against a process that answers requests
 judge list replay FOLDER program COMMAND...   the list against a program started for each job
 judge parts FROM N                            N seeds of each shape: steps worked whole and in parts agree
@@ -47,8 +55,11 @@ fn parts(from: u64, count: u64) -> bool {
 }
 
 fn speed(count: u64) {
-    for shape in shapes::JOB_SHAPES.iter().chain(&[shapes::LONG, shapes::PUT]) {
-        let count = if *shape == shapes::LONG {
+    for shape in [shapes::JOB_SHAPES, shapes::LARGE_SHAPES, &[shapes::PUT]]
+        .concat()
+        .iter()
+    {
+        let count = if shapes::LARGE_SHAPES.contains(shape) {
             count / 50 + 1
         } else {
             count
@@ -105,6 +116,13 @@ fn rounds(count: u64) {
 
 fn main() {
     original::probe::quiet_panics();
+    // A panic of the judge itself is said aloud.
+    if std::panic::catch_unwind(run).is_err() {
+        stop(&format!("judge: {}", original::probe::last_panic()));
+    }
+}
+
+fn run() {
     let args: Vec<String> = std::env::args().skip(1).collect();
     let words: Vec<&str> = args.iter().map(|word| word.as_str()).collect();
     let number = |word: &str| -> u64 {
@@ -136,6 +154,12 @@ fn main() {
                 .expect("standard output takes the job");
             true
         }
+        ["sample-day"] => {
+            std::io::stdout()
+                .write_all(&sample_day::sample_day())
+                .expect("standard output takes the job");
+            true
+        }
         ["show", shape, seed] => {
             print!("{}", against::tell(shape, number(seed)));
             true
@@ -148,19 +172,25 @@ fn main() {
             let mut program = candidate::Program::new(command);
             against::run(&mut program, shape, number(from), number(count))
         }
-        ["list", "write", folder, each] => {
+        ["damage", job, "server", ref command @ ..] if !command.is_empty() => {
+            damage::run(&mut candidate::Server::new(command), job, &read(job))
+        }
+        ["damage", job, "program", ref command @ ..] if !command.is_empty() => {
+            damage::run(&mut candidate::Program::new(command), job, &read(job))
+        }
+        ["list", "write", folder, each, crates] => {
             let mut about = String::new();
             std::io::stdin()
                 .read_to_string(&mut about)
                 .expect("standard input is text");
-            list::write(folder.as_ref(), number(each), &about);
+            list::write(folder.as_ref(), number(each), crates.as_ref(), &about);
             true
         }
         ["list", "export", folder, to] => {
             list::export(folder.as_ref(), to.as_ref());
             true
         }
-        ["list", "test", folder] => list::self_test(folder.as_ref()),
+        ["list", "test", folder, crates] => list::self_test(folder.as_ref(), crates.as_ref()),
         ["list", "replay", folder, "server", ref command @ ..] if !command.is_empty() => {
             list::replay(folder.as_ref(), &mut candidate::Server::new(command))
         }
@@ -182,7 +212,12 @@ fn main() {
     std::process::exit(if fine { 0 } else { 1 });
 }
 
-fn stop(words: &str) -> ! {
+fn read(file: &str) -> Vec<u8> {
+    std::fs::read(file).unwrap_or_else(|error| stop(&format!("{file}: {error}")))
+}
+
+/// Ends with words on standard error.
+pub fn stop(words: &str) -> ! {
     eprintln!("{}", words.trim_end());
     std::process::exit(2)
 }

@@ -1,69 +1,13 @@
 //! The judge: the Rust's answers, and where document 01 refuses, 01's.
 //!
-//! A figure comes from the Rust. A number other than 0, and the layers beside it, come from 01: they are the
-//! checks below, and the tank is put back as it was.
+//! A figure comes from the Rust. A number other than 0, and the layers beside it, come from 01: its checks are in
+//! `checks.rs`, 9 and 10 are found below, and the tank is put back as it was.
 
-use crate::job::{self, Before, Record, Step};
-use crate::job::{MOST_BYTES, MOST_EVENTS, MOST_HEATERS, MOST_LAYERS};
+use crate::checks::{check_heater, check_step, check_tank, finite_above_zero};
+use crate::job::{self, Before, Record, Step, MOST_BYTES, MOST_HEATERS, MOST_LAYERS};
 use original::probe::{self, Failed, Heater, Making, SetPoints, State, Stepped, Tank};
 use recorder::{most_rounds, Turn};
 use std::fmt::Write;
-
-fn finite_above_zero(x: f64) -> bool {
-    x.is_finite() && x > 0.0
-}
-
-/// 1, 3 and 4 of 01, for a tank with these temperatures (the initial one, or its layers).
-pub fn check_tank(making: &Making, temperatures: &[f64]) -> u8 {
-    if making.layers == 0 || making.layers > MOST_LAYERS {
-        return 1;
-    }
-    for x in [making.volume, making.density, making.specific_heat, making.step] {
-        if !finite_above_zero(x) {
-            return 3;
-        }
-    }
-    if !making.standby.is_finite() || making.standby < 0.0 || !making.ambient.is_finite() {
-        return 4;
-    }
-    if temperatures.iter().any(|x| !x.is_finite()) {
-        return 4;
-    }
-    0
-}
-
-/// 5 of 01.
-pub fn check_heater(heater: &Heater) -> u8 {
-    let place = |x: f64| (0.0..1.0).contains(&x);
-    if !heater.rated.is_finite() || heater.rated < 0.0 {
-        return 5;
-    }
-    if !place(heater.position) || heater.thermostat.is_some_and(|x| !place(x)) {
-        return 5;
-    }
-    0
-}
-
-/// 6, 7 and 8 of 01.
-pub fn check_step(step: &Step, heaters: usize) -> u8 {
-    if step.volumes.len() > MOST_EVENTS || step.set_points.len() != heaters {
-        return 6;
-    }
-    if !step.feed.is_finite() || step.volumes.iter().any(|x| !x.is_finite() || *x < 0.0) {
-        return 7;
-    }
-    for (lower, upper) in &step.set_points {
-        if lower.is_some_and(|x| !x.is_finite()) || upper.is_some_and(|x| !x.is_finite()) {
-            return 8;
-        }
-        match (lower, upper) {
-            (Some(_), None) => return 8,
-            (Some(lower), Some(upper)) if lower > upper => return 8,
-            _ => {}
-        }
-    }
-    0
-}
 
 /// What a step came to.
 #[derive(Clone, Debug)]

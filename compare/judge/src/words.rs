@@ -79,6 +79,8 @@ fn part_name(kind: &str, part: usize) -> String {
         "M" if part == 1 => "number".to_string(),
         "M" if part == 2 => "rounds".to_string(),
         "M" if part > 2 => format!("layer {}", part - 3),
+        "T" | "N" if part == 1 => "number".to_string(),
+        _ if part > 0 => format!("place {} of {kind}", part - 1),
         _ => "kind".to_string(),
     }
 }

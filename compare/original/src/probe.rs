@@ -93,12 +93,17 @@ pub fn quiet_panics() {
     }));
 }
 
+/// The words of the last panic.
+pub fn last_panic() -> String {
+    LAST_PANIC.take()
+}
+
 fn guarded<T>(work: impl FnOnce() -> anyhow::Result<T>) -> Result<T, Failed> {
     match catch_unwind(AssertUnwindSafe(work)) {
         Ok(Ok(answer)) => Ok(answer),
         Ok(Err(error)) => Err(Failed::Erred(error.to_string())),
         Err(payload) if payload.is::<MixedTooLong>() => Err(Failed::MixedTooLong),
-        Err(_) => Err(Failed::Panicked(LAST_PANIC.take())),
+        Err(_) => Err(Failed::Panicked(last_panic())),
     }
 }
 

@@ -1,0 +1,74 @@
+//! 01's refusals 1 to 8, as functions of what a call is given. Each answers the number, or 0.
+
+use crate::job::{Step, MOST_EVENTS, MOST_HEATERS, MOST_LAYERS};
+use original::probe::{Heater, Making};
+
+pub fn finite_above_zero(x: f64) -> bool {
+    x.is_finite() && x > 0.0
+}
+
+/// 1, 3 and 4 of 01, for a tank with these temperatures (the initial one, or its layers).
+pub fn check_tank(making: &Making, temperatures: &[f64]) -> u8 {
+    if making.layers == 0 || making.layers > MOST_LAYERS {
+        return 1;
+    }
+    for x in [making.volume, making.density, making.specific_heat, making.step] {
+        if !finite_above_zero(x) {
+            return 3;
+        }
+    }
+    if !making.standby.is_finite() || making.standby < 0.0 || !making.ambient.is_finite() {
+        return 4;
+    }
+    if temperatures.iter().any(|x| !x.is_finite()) {
+        return 4;
+    }
+    0
+}
+
+/// 5 of 01.
+pub fn check_heater(heater: &Heater) -> u8 {
+    let place = |x: f64| (0.0..1.0).contains(&x);
+    if !heater.rated.is_finite() || heater.rated < 0.0 {
+        return 5;
+    }
+    if !place(heater.position) || heater.thermostat.is_some_and(|x| !place(x)) {
+        return 5;
+    }
+    0
+}
+
+/// 1 to 5 of 01 in order, for a tank that is made or stepped by one call: so many heaters, of which these are there.
+pub fn check_call(making: &Making, temperatures: &[f64], count: usize, heaters: &[Heater]) -> u8 {
+    match check_tank(making, temperatures) {
+        1 => 1,
+        _ if count > MOST_HEATERS => 2,
+        0 => heaters
+            .iter()
+            .map(check_heater)
+            .find(|number| *number != 0)
+            .unwrap_or(0),
+        number => number,
+    }
+}
+
+/// 6, 7 and 8 of 01.
+pub fn check_step(step: &Step, heaters: usize) -> u8 {
+    if step.volumes.len() > MOST_EVENTS || step.set_points.len() != heaters {
+        return 6;
+    }
+    if !step.feed.is_finite() || step.volumes.iter().any(|x| !x.is_finite() || *x < 0.0) {
+        return 7;
+    }
+    for (lower, upper) in &step.set_points {
+        if lower.is_some_and(|x| !x.is_finite()) || upper.is_some_and(|x| !x.is_finite()) {
+            return 8;
+        }
+        match (lower, upper) {
+            (Some(_), None) => return 8,
+            (Some(lower), Some(upper)) if lower > upper => return 8,
+            _ => {}
+        }
+    }
+    0
+}
