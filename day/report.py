@@ -17,7 +17,7 @@ class WrongOutput(Exception):
 
 def double(digits):
     if len(digits) != 16:
-        raise WrongOutput("expected 16 hexadecimal digits, found '%s'" % digits)
+        raise ValueError(digits)
     return struct.unpack(">d", bytes.fromhex(digits))[0]
 
 
@@ -25,17 +25,26 @@ def read_report(lines, order):
     """`order` is the heaters' working order: the lines `H` of a step come so."""
     steps, ended = [], None
     for line in lines:
-        kind, *parts = line.split(" ")
-        if kind == "S":
-            totals = Totals(*map(double, parts[2:])) if len(parts) > 2 else None
-            steps.append(StepReport(int(parts[0]), int(parts[1]), totals, [], {}))
-        elif kind == "L":
-            steps[-1].layers.extend(map(double, parts))
-        elif kind == "H":
-            place = order[len(steps[-1].heaters)]
-            steps[-1].heaters[place] = Line(parts[0] == "1", *map(double, parts[1:4]), int(parts[4]))
-        elif kind == "E":
-            ended = (int(parts[0]), int(parts[1]))
-        else:
-            raise WrongOutput("expected a line S, L, H or E, found '%s'" % line)
+        try:
+            ended = read_line(line, steps, order) or ended
+        except (ValueError, IndexError, TypeError):
+            raise WrongOutput("job: a line that cannot be read: '%s'" % line) from None
     return Report(steps, ended)
+
+
+def read_line(line, steps, order):
+    """Adds to the steps what a line says; the answer is what a line `E` says."""
+    kind, *parts = line.split(" ")
+    if kind == "S":
+        totals = Totals(*map(double, parts[2:])) if len(parts) > 2 else None
+        steps.append(StepReport(int(parts[0]), int(parts[1]), totals, [], {}))
+    elif kind == "L":
+        steps[-1].layers.extend(map(double, parts))
+    elif kind == "H":
+        place = order[len(steps[-1].heaters)]
+        steps[-1].heaters[place] = Line(parts[0] == "1", *map(double, parts[1:4]), int(parts[4]))
+    elif kind == "E":
+        return int(parts[0]), int(parts[1])
+    else:
+        raise ValueError(kind)
+    return None

@@ -37,8 +37,8 @@ def hour(index, day):
 def layer_names(count):
     """From the top down; layer 0 is the bottom."""
     names = ["L%d" % layer for layer in reversed(range(count))]
-    names[-1] = "bottom"
-    names[0] = "top"
+    if count > 1:
+        names[0], names[-1] = "top", "bottom"
     return names
 
 
@@ -163,7 +163,7 @@ def ended_words(day, ended):
 
 
 def table(day, report, name):
-    lines = wrapped("%s: %s" % (name, tank_words(day.tank)), "", "  ")
+    lines = [name, "  tank: %s" % tank_words(day.tank)]
     for place, heater in enumerate(day.heaters):
         lines.append("  h%d: %s" % (place, heater_words(heater)))
     if report.steps:

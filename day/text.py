@@ -18,7 +18,7 @@ HEATER_FIELDS = [("rated power", "kW"), ("position", "of height"), ("thermostat"
 STEP_FIELDS = [("feed", "C"), ("draws", "litres")]
 MOST = 65535  # a job has two bytes for the number of layers, and of draws
 
-NUMBER = re.compile(r"[+-]?([0-9]+(\.[0-9]*)?|\.[0-9]+)([eE][+-]?[0-9]+)?|[+-]?inf|nan")
+NUMBER = re.compile(r"[+-]?([0-9]+(\.[0-9]*)?|\.[0-9]+)([eE][+-]?[0-9]+)?|[+-]?inf|nan", re.IGNORECASE)
 WHOLE = re.compile(r"[0-9]{1,9}")
 
 
@@ -40,7 +40,7 @@ def number(word):
     if not NUMBER.fullmatch(word):
         raise Unfit("expected a number such as 12.5, -3, 1e-3, nan, inf or -inf, found '%s'" % word)
     value = float(word)
-    if abs(value) == float("inf") and "inf" not in word:
+    if abs(value) == float("inf") and "inf" not in word.lower():
         raise Unfit("expected a number that a double can hold, found '%s'; infinity is written inf" % word)
     return value
 

@@ -23,9 +23,7 @@ def set_point(word):
 
 
 def bit(word):
-    if word not in ("0", "1"):
-        raise WrongOutput("expected 0 or 1, found '%s'" % word)
-    return word == "1"
+    return {"0": False, "1": True}[word]
 
 
 def read_turn(parts):
@@ -33,16 +31,27 @@ def read_turn(parts):
     return Turn(int(heater), double(begin), double(end), set_point(lower), set_point(upper), bit(ran), bit(flag), double(supplied))
 
 
+def read_line(line, steps):
+    """Adds to the steps what a line says; the answer is what a line `E` says."""
+    kind, *parts = line.split(" ")
+    if kind == "S":
+        index, number = map(int, parts)
+        steps.append(StepTurns(index, number, []))
+    elif kind == "T":
+        steps[-1].turns.append(read_turn(parts))
+    elif kind == "E":
+        number, offset = map(int, parts)
+        return number, offset
+    else:
+        raise ValueError(kind)
+    return None
+
+
 def read_history(lines):
     steps, ended = [], None
     for line in lines:
-        kind, *parts = line.split(" ")
-        if kind == "S" and len(parts) == 2:
-            steps.append(StepTurns(int(parts[0]), int(parts[1]), []))
-        elif kind == "T" and len(parts) == 8 and steps:
-            steps[-1].turns.append(read_turn(parts))
-        elif kind == "E" and len(parts) == 2:
-            ended = (int(parts[0]), int(parts[1]))
-        else:
-            raise WrongOutput("history: expected a line S, T or E, found '%s'" % line)
+        try:
+            ended = read_line(line, steps) or ended
+        except (ValueError, IndexError, KeyError):
+            raise WrongOutput("history: a line that cannot be read: '%s'" % line) from None
     return History(steps, ended)

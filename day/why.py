@@ -36,7 +36,7 @@ def walk(history, heater):
         yield Memory(flag, on, off, since, refused)
 
 
-def check_agrees(day, history, report):
+def check_agrees(history, report):
     """The flags that history ends its turns with are those that job prints."""
     if [step[:2] for step in history.steps] != [step[:2] for step in report.steps] or history.ended != report.ended:
         raise WrongOutput("job and history do not tell of the same steps")
@@ -63,7 +63,7 @@ def beside(temperature, point):
 def came_on(memory, day, verb):
     index, turn = memory.on
     begin = beside(turn.begin, turn.lower)
-    told = "%s in %s: its thermostat layer began at %s C," % (verb, step_words(index, day), begin)
+    told = "%s in %s: its turn began with its thermostat layer at %s C," % (verb, step_words(index, day), begin)
     return "%s at or under the lower set point of %s C." % (told, decimal(turn.lower))
 
 
@@ -78,22 +78,20 @@ def went_off(memory, day):
 
 def nearest(turns):
     """Of turns that did not come on: how near the thermostat layer was to a lower set point where they began."""
-    if not turns:
-        return ""
     asked = [here for here in turns if here[1].lower is not None]
+    told = " A lower set point was there in %d of %d steps" % (len(asked), len(turns))
     if not asked:
-        return " None of these %d steps had a lower set point." % len(turns)
+        return told + "."
     index, turn = min(asked, key=lambda here: here[1].begin - here[1].lower)
-    told = " Of these %d steps %d had a lower set point; nearest to it was step %d," % (len(turns), len(asked), index)
-    return "%s which began at %s C, above %s C." % (told, beside(turn.begin, turn.lower), decimal(turn.lower))
+    began = "which began at %s C, above %s C" % (beside(turn.begin, turn.lower), decimal(turn.lower))
+    return "%s; nearest to it came step %d, %s." % (told, index, began)
 
 
 def stays_on(memory):
     index, turn = memory.since[-1]
     count = len(memory.since)
-    told = "In no accepted step from that one on did its turn end with the upper set point missing or reached: %d step%s;"
-    last = "the last, step %d, ended at %s C, under %s C." % (index, beside(turn.end, turn.upper), decimal(turn.upper))
-    return "%s %s" % (told % (count, "s" if count > 1 else ""), last)
+    told = "In no accepted step from that one on (%d so far) did its turn end with the upper set point missing or reached;" % count
+    return "%s step %d ended at %s C, under %s C." % (told, index, beside(turn.end, turn.upper), decimal(turn.upper))
 
 
 def explained(place, memory, day, last):
@@ -106,9 +104,9 @@ def explained(place, memory, day, last):
         lines.append(came_on(memory, day, "It had come on"))
         later = [here for here in memory.since if here[0] > memory.off[0]]
         if later:
-            lines.append("No accepted step since began at or under a lower set point." + nearest(later))
+            lines.append("In no accepted step since did its turn begin at or under a lower set point." + nearest(later))
     else:
-        lines.append("It was never on: no accepted step ever began at or under a lower set point." + nearest(memory.since))
+        lines.append("It was never on: in no accepted step did its turn begin at or under a lower set point." + nearest(memory.since))
     if memory.refused:
         plural = "s" if len(memory.refused) > 1 else ""
         meanwhile = "Refused meanwhile" if memory.on else "Refused"
@@ -120,7 +118,7 @@ def ago(index, day, last):
     if index == last:
         return ""
     count = last - index
-    return " That was %d step%s (%s hours) earlier." % (count, "s" if count > 1 else "", "%g" % (count * day.tank.step_length))
+    return " That was %d step%s (%g h) earlier." % (count, "s" if count > 1 else "", count * day.tank.step_length)
 
 
 def why(day, history, last):
@@ -129,6 +127,8 @@ def why(day, history, last):
     lines = ["After %s%s:" % (step_words(last, day), ", the last" if last == len(history.steps) - 1 else "")]
     if step.number:
         lines += wrapped("That step was refused and left every flag alone: refusal %d. %s" % (step.number, words(step.number)))
+    if not day.heaters:
+        lines += ["", "The tank has no heaters."]
     for place in range(len(day.heaters)):
         memory = list(walk(history, place))[last]
         first, *rest = explained(place, memory, day, last)
