@@ -354,11 +354,11 @@ def heading(frame, title):
 def footing(frame, y):
     """The refusals met, in words."""
     texts = ["refused %d: %s" % (number, refusal_words(number)) for number in sorted(set(frame.refused) - {0})]
-    if frame.report.ended:
-        texts.append(ended_words(frame.day, frame.report.ended))
+    ended = ended_words(frame.day, frame.report)
+    texts += [ended] if ended else []
     out = []
     for text in texts:
-        for piece in textwrap.wrap(text, 125):
+        for piece in textwrap.wrap(text, 125, break_on_hyphens=False):
             out.append(words(LEFT, y, piece, 14, fill=REFUSED))
             y += 20
     return out, y

@@ -111,7 +111,8 @@ def heaters_table(day, report):
 
 
 def wrapped(text, first="", rest=None):
-    return textwrap.wrap(text, WIDE, initial_indent=first, subsequent_indent=" " * len(first) if rest is None else rest)
+    rest = " " * len(first) if rest is None else rest
+    return textwrap.wrap(text, WIDE, initial_indent=first, subsequent_indent=rest, break_on_hyphens=False)
 
 
 def heater_words(heater):
@@ -148,18 +149,21 @@ def refused_words(report):
     return lines
 
 
-def ended_words(day, ended):
-    """A refusal outside a step: which line of the text it is about."""
-    number, offset = ended
-    index = record_at(day, offset)
-    where = "byte %d" % offset
-    if day.lines and index is not None:
-        where = "line %d (byte %d of its job)" % (day.lines[index], offset)
-    text = "The job ended at %s: refusal %d. %s" % (where, number, words(number))
+def ended_words(day, report):
+    """Why not every step was run, if so: a refusal outside a step, by the line of the text that it is about, or the input's length."""
+    parts = []
+    if report.ended:
+        number, offset = report.ended
+        index = record_at(day, offset)
+        where = "byte %d" % offset
+        if day.lines and index is not None:
+            where = "line %d (byte %d of its job)" % (day.lines[index], offset)
+        parts.append("The job ended at %s: refusal %d. %s" % (where, number, words(number)))
     length = len(job_bytes(day))
-    if number == 11 and length > BYTES_READ:
-        text += " The job has %d bytes; the program reads the first %d." % (length, BYTES_READ)
-    return text
+    if len(report.steps) < len(day.steps) and length > BYTES_READ:
+        missing = "the steps from %d on were not run" % len(report.steps)
+        parts.append("The job has %d bytes and the program reads the first %d: %s." % (length, BYTES_READ, missing))
+    return " ".join(parts)
 
 
 def table(day, report, name):
@@ -173,8 +177,9 @@ def table(day, report, name):
         lines += [""] + refused if refused else []
     if day.heaters and any(step.totals for step in report.steps):
         lines += ["", "Heaters, accepted steps:", ""] + heaters_table(day, report)
-    if report.ended:
-        lines += [""] + wrapped(ended_words(day, report.ended))
+    ended = ended_words(day, report)
+    if ended:
+        lines += [""] + wrapped(ended)
     elif not report.steps:
         lines += ["", "No steps."]
     return "".join(line + "\n" for line in lines)
