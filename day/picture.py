@@ -7,7 +7,7 @@ from refusals import words as refusal_words
 from svg import FONT, GREY, HEATERS, HEIGHTS, INK, PALE, TEMPERATURES, Scale, blend, box, element, line, place, readable_on, runs, text_width, tick_words, ticks, widened, words
 from table import ended_words, layer_names, tank_words
 
-WIDTH, LEFT, RIGHT = 1280, 96, 1030
+WIDTH, LEFT, RIGHT = 1280, 108, 1030
 LEVELS = 96  # colours told apart in the bands
 HOUR_STEPS = [0.25, 0.5, 1, 2, 3, 6, 12, 24, 48, 72, 120, 168, 240, 336, 480, 720]
 DRAWN, REFUSED = "#2b8cbe", "#8a1c1c"
@@ -46,15 +46,15 @@ class Frame:
 
 def axis_name(text, top, bottom):
     middle = (top + bottom) / 2
-    return words(0, 0, text, 15, text_anchor="middle", fill=INK, transform="translate(24 %s) rotate(-90)" % place(middle))
+    return words(0, 0, text, 15, text_anchor="middle", fill=INK, transform="translate(22 %s) rotate(-90)" % place(middle))
 
 
-def y_ticks(scale, values, unit=""):
+def y_ticks(scale, values, unit):
     out = []
     for value in values:
         y = scale(value)
         out.append(line(LEFT, y, RIGHT, y, stroke=PALE, stroke_width=1))
-        out.append(words(LEFT - 8, y + 5, tick_words(value) + unit, 15, text_anchor="end", fill=INK))
+        out.append(words(LEFT - 8, y + 5, tick_words(value), 15, text_anchor="end", fill=INK, class_=unit))
     return out
 
 
@@ -255,7 +255,7 @@ def draws(frame, top, height):
         return [words(middle, top + height / 2 + 5, "no draws", 15, text_anchor="middle", fill=GREY), frame_box(top, height)]
     low, high = widened(0.0, most * 1.05)
     scale = Scale(low, high, top + height, top)
-    out = y_ticks(scale, ticks(low, high, 3))
+    out = y_ticks(scale, ticks(low, high, 3), "litres")
     for index, volumes in enumerate(wanted):
         x, width = frame.span(index, index)
         room = max(1.5, width * 0.7)
@@ -263,13 +263,13 @@ def draws(frame, top, height):
         base = 0.0
         for volume in volumes if math.isfinite(sum(volumes)) else []:
             y = scale(base + volume)
-            edge = "#ffffff" if width > 6 and colour != "none" else GREY if colour == "none" else None
-            out.append(box(x + (width - room) / 2, y, room, scale(base) - y, fill=colour, stroke=edge, class_="draw"))
+            edge = DRAWN if colour == "none" else "#ffffff" if width > 6 else None
+            out.append(box(x + (width - room) / 2, y, room, scale(base) - y, fill=colour, stroke=edge, stroke_width=1.5, class_="draw"))
             base += volume
     out.append(box(RIGHT + 24, top + 8, 12, 14, fill=DRAWN))
     out.append(words(RIGHT + 44, top + 20, "one draw", 15, fill=INK))
     if any(refused and volumes for refused, volumes in zip(frame.refused, wanted)):
-        out.append(box(RIGHT + 24, top + 30, 12, 14, fill="none", stroke=GREY))
+        out.append(box(RIGHT + 24, top + 30, 12, 14, fill="none", stroke=DRAWN, stroke_width=1.5))
         out.append(words(RIGHT + 44, top + 42, "in a refused step", 15, fill=INK))
     return out + [frame_box(top, height)]
 
@@ -383,7 +383,7 @@ def picture(day, report, history, title):
     parts = heading(frame, title)
     parts += hour_axis(frame, top_1, bottom)
     parts += bands(frame, top_1, height_1, low, high) + colour_bar(frame, top_1, height_1, low, high) + fittings(frame, top_1, height_1)
-    parts += y_ticks(scale, ticks(bottom_value, top_value, max(3, int(height_2 / 34))))
+    parts += y_ticks(scale, ticks(bottom_value, top_value, max(3, int(height_2 / 34))), "degrees")
     parts += set_points(frame, scale) + layer_lines(frame, scale) + begins(frame, scale) + [frame_box(top_2, height_2)] + key + more
     parts += draws(frame, top_3, height_3)
     parts += flag_rows(frame, top_4, row)
