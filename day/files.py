@@ -1,5 +1,6 @@
 """Writing whole files: a file appears complete or not at all."""
 
+import errno
 import os
 import sys
 import tempfile
@@ -7,7 +8,15 @@ import tempfile
 
 def write_whole(path, data):
     """Writes beside the target and renames, so that whatever interrupts it leaves the target as it was."""
-    folder = os.path.dirname(os.path.abspath(path))
+    path = os.path.realpath(path)
+    if os.path.exists(path) and not os.path.isfile(path):
+        # A device or a pipe cannot be replaced.
+        with open(path, "wb") as file:
+            file.write(data)
+        return
+    folder = os.path.dirname(path)
+    if not os.path.isdir(folder):
+        raise FileNotFoundError(errno.ENOENT, "there is no such folder", folder)
     handle, beside = tempfile.mkstemp(prefix=".", suffix=".part", dir=folder)
     try:
         with os.fdopen(handle, "wb") as file:

@@ -121,7 +121,7 @@ class Said(Folder):
         self.assertIn(b"none.day: No such file", done.stderr)
         done = day_command("pack", self.day, "-o", os.path.join(self.folder, "none", "a.job"))
         self.assertEqual(done.returncode, 2)
-        self.assertIn(b"No such file", done.stderr)
+        self.assertIn(b"none: there is no such folder", done.stderr)
 
     def test_job_in_place_of_a_text(self):
         """run takes a job as well, and shows the same."""
@@ -130,6 +130,13 @@ class Said(Folder):
         texts, jobs = (day_command("run", path).stdout.splitlines()[1:] for path in (self.day, job))
         self.assertEqual(texts, jobs)
         self.assertIn(b"is a job already", day_command("pack", job).stderr)
+
+    def test_standard_input_and_output(self):
+        with open(self.day, "rb") as file:
+            data = file.read()
+        job = day_command("pack", "-", "-o", "/dev/stdout", input=data).stdout
+        self.assertEqual(job, day_command("pack", self.day).stdout)
+        self.assertEqual(day_command("unpack", "-", input=job).stdout.count(b"step feed nan C"), 40)
 
     def test_lines_that_cannot_be_read(self):
         programs = self.programs(1, 0)

@@ -135,9 +135,10 @@ class Picture(unittest.TestCase):
     def test_extreme_numbers(self):
         day = random_day(4, 3, 1, 5)
         day.tank = day.tank._replace(initial=-1e307)
-        day.steps = [step._replace(volumes=[], points=[(1e307, 1e308)]) for step in day.steps]
+        day.steps = [step._replace(volumes=[1.7e308], points=[(-1.7e308, 1.7e308)]) for step in day.steps]
         _, _, root = drawn(day)
         self.assertEqual(len(of_class(root, "layer")), 3)
+        self.assertNotRegex(ElementTree.tostring(root, "unicode"), r"\"(nan|-?inf)\"")
 
 
 if __name__ == "__main__":

@@ -191,10 +191,10 @@ class Refused(unittest.TestCase):
             self.assertIn("reads the first 65536: the steps from %d on were not run." % count, shown)
 
     def test_exit_status(self):
-        done = day_command("run", "/dev/stdin", input=tank(0).encode())
+        done = day_command("run", "-", input=tank(0).encode())
         self.assertEqual(done.returncode, 1)
         self.assertIn(b"refusal 1. The layers are none or", done.stdout)
-        done = day_command("run", "--csv", "/dev/stdin", input=tank(0).encode())
+        done = day_command("run", "--csv", "-", input=tank(0).encode())
         self.assertEqual(done.returncode, 1)
         self.assertIn(b"refusal 1. The layers are none or more than 32.", done.stderr)
 

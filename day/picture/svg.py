@@ -1,6 +1,7 @@
 """The pieces of a picture: elements, scales, ticks and colours."""
 
 import math
+import sys
 from xml.sax.saxutils import escape, quoteattr
 
 FONT = "'DejaVu Sans', Verdana, Helvetica, Arial, sans-serif"
@@ -93,6 +94,11 @@ def widened(low, high):
     step = nice_step(high - low, 6)
     bottom, top = math.floor(low / step + 1e-9) * step, math.ceil(high / step - 1e-9) * step
     return (bottom, top) if bottom < top else (low, high)
+
+
+def clamped(value):
+    """Kept among the doubles that are finite."""
+    return min(max(value, -sys.float_info.max), sys.float_info.max)
 
 
 def tick_words(value):
