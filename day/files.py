@@ -8,12 +8,12 @@ import tempfile
 
 def write_whole(path, data):
     """Writes beside the target and renames, so that whatever interrupts it leaves the target as it was."""
-    path = os.path.realpath(path)
     if os.path.exists(path) and not os.path.isfile(path):
         # A device or a pipe cannot be replaced.
         with open(path, "wb") as file:
             file.write(data)
         return
+    path = os.path.realpath(path)
     folder = os.path.dirname(path)
     if not os.path.isdir(folder):
         raise FileNotFoundError(errno.ENOENT, "there is no such folder", folder)

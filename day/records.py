@@ -1,4 +1,4 @@
-"""The records of a job, from bytes and to bytes (docs/JOB_FORMAT.md). Numbers are taken as they are: judging them is the program's part."""
+"""The records of a job, from bytes and to bytes (docs/JOB_FORMAT.md). Judging their numbers is the program's part."""
 
 import struct
 from collections import namedtuple
@@ -13,7 +13,7 @@ NAN_BITS = struct.pack("<Q", 0x7FF8000000000000)
 
 
 class Day:
-    """A tank, its heaters and its steps. `lines` has a text's line number for each record, in order; `title` is its first comment."""
+    """A tank, its heaters and its steps. Of a text also the line of each record, in order, and the first comment."""
 
     def __init__(self, tank, heaters, steps, lines=None, title=None):
         self.tank, self.heaters, self.steps = tank, heaters, steps
@@ -31,7 +31,7 @@ class Malformed(Exception):
 
 
 class Lost:
-    """What a text cannot hold: not-a-numbers of other bits than the usual ones, and absent doubles that are not zero."""
+    """What a text cannot hold: a not-a-number's sign and payload, and absent doubles that are not zero."""
 
     def __init__(self):
         self.payloads = self.absent = 0
@@ -175,7 +175,7 @@ def body_at(data, at):
 
 
 def read_job(data):
-    """The day that a job's bytes hold, and what a text of it loses; Malformed names the first record that is not one."""
+    """The day that a job's bytes hold, and what a text of it loses; or Malformed, at the first bad record."""
     tank, heaters, steps, lost = None, [], [], Lost()
     at = 0
     while at < len(data) or tank is None:

@@ -47,7 +47,7 @@ def layer_names(count):
 
 def lay_out(groups, spans=None):
     """The lines of a table. `spans` says where one text takes the place of a group's cells: (row, group) to text."""
-    widths = [[max(len(cell) for cell in [heading, unit] + cells) for heading, unit, cells in columns] for _, columns in groups]
+    widths = [[max(map(len, [heading, unit] + cells)) for heading, unit, cells in columns] for _, columns in groups]
     inner, outer = 2, 3
     if sum(map(sum, widths)) + inner * sum(len(group) - 1 for group in widths) + outer * (len(groups) - 1) > WIDE:
         inner, outer = 1, 2
@@ -58,7 +58,8 @@ def lay_out(groups, spans=None):
         return (" " * outer).join(piece.ljust(room) for piece, room in zip(pieces, rooms)).rstrip()
 
     def cells_line(pick):
-        return [(" " * inner).join(pick(c).rjust(w) for c, w in zip(columns, group)) for (_, columns), group in zip(groups, widths)]
+        rows = [[pick(c).rjust(w) for c, w in zip(columns, group)] for (_, columns), group in zip(groups, widths)]
+        return [(" " * inner).join(row) for row in rows]
 
     lines = [joined([title for title, _ in groups])]
     lines += [joined(cells_line(lambda column, part=part: column[part])) for part in (0, 1)]
@@ -70,7 +71,8 @@ def lay_out(groups, spans=None):
 
 def steps_table(day, report):
     steps = report.steps
-    begin = [("step", "", ["%d" % step.index for step in steps]), ("hour", "", [hour(step.index, day) for step in steps])]
+    begin = [("step", "", ["%d" % step.index for step in steps])]
+    begin.append(("hour", "", [hour(step.index, day) for step in steps]))
     totals = []
     for name, heading, unit, show in (
         ("energy", "energy", "kWh", energy),
@@ -101,7 +103,9 @@ def heaters_table(day, report):
     groups = [("", [("step", "", ["%d" % step.index for step in steps])])]
     for place in day.working_order():
         lines = [step.heaters[place] for step in steps]
-        columns = [(name, "kWh", [energy(getattr(line, name)) for line in lines]) for name in ("adjusted", "supplied", "losses")]
+        columns = []
+        for name in ("adjusted", "supplied", "losses"):
+            columns.append((name, "kWh", [energy(getattr(line, name)) for line in lines]))
         columns.append(("rounds", "", ["%d" % line.rounds for line in lines]))
         groups.append(("heater %d" % place, columns))
     return lay_out(groups)
@@ -121,8 +125,8 @@ def heater_words(heater):
 
 
 def tank_words(tank):
-    plural = "s" if tank.layers != 1 else ""
-    return "%d layer%s, %s litres, step length %s hours" % (tank.layers, plural, decimal(tank.volume), decimal(tank.step_length))
+    layers = "%d layer%s" % (tank.layers, "s" if tank.layers != 1 else "")
+    return "%s, %s litres, step length %s hours" % (layers, decimal(tank.volume), decimal(tank.step_length))
 
 
 def numbers(values):
@@ -144,13 +148,13 @@ def refused_words(report):
             by_number.setdefault(step.number, []).append(step.index)
     lines = []
     for number, indexes in sorted(by_number.items()):
-        plural = "s" if len(indexes) > 1 else ""
-        lines += wrapped("Refused, step%s %s: refusal %d. %s" % (plural, numbers(indexes), number, words(number)), "", "  ")
+        which = "step%s %s" % ("s" if len(indexes) > 1 else "", numbers(indexes))
+        lines += wrapped("Refused, %s: refusal %d. %s" % (which, number, words(number)), "", "  ")
     return lines
 
 
 def ended_words(day, report):
-    """Why not every step was run, if so: a refusal outside a step, by the line of the text that it is about, or the input's length."""
+    """Why not every step was run, if so: a refusal outside a step, or more bytes than the program reads."""
     parts = []
     if report.ended:
         number, offset = report.ended

@@ -1,4 +1,4 @@
-"""A day as text: one line a record, names and units on it, numbers in decimal. day/README.md has the form of each line."""
+"""A day as text: one line a record, names and units on it, numbers in decimal (day/README.md)."""
 
 import re
 

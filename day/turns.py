@@ -28,7 +28,8 @@ def bit(word):
 
 def read_turn(parts):
     heater, begin, end, lower, upper, ran, flag, supplied = parts
-    return Turn(int(heater), double(begin), double(end), set_point(lower), set_point(upper), bit(ran), bit(flag), double(supplied))
+    points = (set_point(lower), set_point(upper))
+    return Turn(int(heater), double(begin), double(end), *points, bit(ran), bit(flag), double(supplied))
 
 
 def read_line(line, steps):

@@ -1,7 +1,7 @@
 """Why a heater's flag is on or off: what it remembers (demand 3), read from the turns that history prints.
 
-Only accepted steps count. A flag comes on where a turn runs on that began with the flag off: its thermostat layer was then
-at or under the lower set point. It goes off where a turn ends with the upper set point missing or reached.
+Only accepted steps count. A flag comes on where a turn runs on that began with the flag off: its thermostat layer was
+then at or under the lower set point. It goes off where a turn ends with the upper set point missing or reached.
 """
 
 from collections import namedtuple
@@ -11,8 +11,8 @@ from report import WrongOutput
 from table import degrees, hour, numbers, wrapped
 from text import decimal
 
-# `on`, `off`: the step and the turn where the flag last came on and last went off, or None; `since`: the accepted turns from
-# the later of the two to the last, that one included; `refused`: the refused steps among them.
+# `on`, `off`: the step and the turn where the flag last came on and last went off, or None; `since`: the accepted turns
+# from the later of the two to the last, that one included; `refused`: the refused steps among them.
 Memory = namedtuple("Memory", "flag on off since refused")
 
 
@@ -72,8 +72,8 @@ def went_off(memory, day):
     told = "It went off in %s:" % step_words(index, day)
     if turn.upper is None:
         return "%s its turn ended with the upper set point missing (thermostat layer %s C)." % (told, degrees(turn.end))
-    reached = "its turn ended at %s C, the upper set point of %s C reached." % (beside(turn.end, turn.upper), decimal(turn.upper))
-    return "%s %s" % (told, reached)
+    end = beside(turn.end, turn.upper)
+    return "%s its turn ended at %s C, the upper set point of %s C reached." % (told, end, decimal(turn.upper))
 
 
 def nearest(turns):
@@ -89,9 +89,9 @@ def nearest(turns):
 
 def stays_on(memory):
     index, turn = memory.since[-1]
-    count = len(memory.since)
-    told = "In no accepted step from that one on (%d so far) did its turn end with the upper set point missing or reached;" % count
-    return "%s step %d ended at %s C, under %s C." % (told, index, beside(turn.end, turn.upper), decimal(turn.upper))
+    told = "In no accepted step from that one on (%d so far) did its turn end" % len(memory.since)
+    ended = "step %d ended at %s C, under %s C" % (index, beside(turn.end, turn.upper), decimal(turn.upper))
+    return "%s with the upper set point missing or reached; %s." % (told, ended)
 
 
 def explained(place, memory, day, last):
@@ -106,7 +106,8 @@ def explained(place, memory, day, last):
         if later:
             lines.append("In no accepted step since did its turn begin at or under a lower set point." + nearest(later))
     else:
-        lines.append("It was never on: in no accepted step did its turn begin at or under a lower set point." + nearest(memory.since))
+        never = "It was never on: in no accepted step did its turn begin at or under a lower set point."
+        lines.append(never + nearest(memory.since))
     if memory.refused:
         plural = "s" if len(memory.refused) > 1 else ""
         meanwhile = "Refused meanwhile" if memory.on else "Refused"
@@ -126,7 +127,8 @@ def why(day, history, last):
     step = history.steps[last]
     lines = ["After %s%s:" % (step_words(last, day), ", the last" if last == len(history.steps) - 1 else "")]
     if step.number:
-        lines += wrapped("That step was refused and left every flag alone: refusal %d. %s" % (step.number, words(step.number)))
+        refusal = "refusal %d. %s" % (step.number, words(step.number))
+        lines += wrapped("That step was refused and left every flag alone: %s" % refusal)
     if not day.heaters:
         lines += ["", "The tank has no heaters."]
     for place in range(len(day.heaters)):

@@ -1,4 +1,4 @@
-"""The flags: a row for each heater, with a bar where its flag is on after the step and a thin line where it supplied heat."""
+"""The flags: a row for each heater, a bar where its flag is on after the step, a thin line where it supplied heat."""
 
 from picture.frame import KEY, LEFT, RIGHT
 from picture.svg import GREY, HEATERS, INK, PALE, box, line, readable_on, runs, words

@@ -138,5 +138,6 @@ def keys(frame, top):
 
 def temperatures(frame, top, height, scale):
     values = ticks(scale.low, scale.high, max(3, int(height / 34)))
-    out = y_ticks(scale, values, "degrees") + set_points(frame, scale) + layer_lines(frame, scale) + begins(frame, scale)
+    out = y_ticks(scale, values, "degrees") + set_points(frame, scale)
+    out += layer_lines(frame, scale) + begins(frame, scale)
     return out + [frame_box(top, height), axis_name("temperature, °C", top, height)]

@@ -11,7 +11,8 @@ DAY = os.path.dirname(TESTS)
 ROOT = os.path.dirname(DAY)
 sys.path[:0] = [DAY, TESTS]
 
-# The program history is to come. Set to True once `rt check history` builds it; until then what needs it is skipped, and day/test says so.
+# The program history is to come: True once `rt check history` builds it. Until then the tests that need it are skipped,
+# and day/test says so.
 HISTORY_READY = False
 NEEDS_HISTORY = "NEEDS target/bin/history (HISTORY_READY in day/tests/common.py is False)"
 

@@ -39,7 +39,8 @@ def picture_path(name):
 
 
 def anew(match):
-    return "```console\n%s```\n" % "".join("$ %s\n%s" % (command, printed(command)) for command, _ in commands(match.group(1)))
+    quotes = ["$ %s\n%s" % (command, printed(command)) for command, _ in commands(match.group(1))]
+    return "```console\n%s```\n" % "".join(quotes)
 
 
 def main():

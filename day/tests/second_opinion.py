@@ -1,4 +1,4 @@
-"""What history must print for a job, by document 01 written in Python (compare/model.py): the tests hold the program against it.
+"""What history must print for a job, by document 01 written in Python (compare/model.py).
 
 As a command it reads a job and prints the lines: python3 day/tests/second_opinion.py < JOB
 """

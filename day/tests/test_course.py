@@ -1,4 +1,4 @@
-"""The course runs as it stands: its quotes are what the commands print, its pictures what the command draws, its numbers the programs'."""
+"""The course runs as it stands: quotes, pictures and numbers are those of the commands."""
 
 import os
 import re
@@ -21,7 +21,8 @@ class Course(unittest.TestCase):
     def setUp(self):
         with open(quoted.COURSE, encoding="utf-8") as file:
             self.text = file.read()
-        self.sections = {match.group(1): match.group(0) for match in re.finditer(r"## ([1-5])\. .*?(?=\n## |\Z)", self.text, re.DOTALL)}
+        sections = re.finditer(r"## ([1-5])\. .*?(?=\n## |\Z)", self.text, re.DOTALL)
+        self.sections = {match.group(1): match.group(0) for match in sections}
 
     def quotes(self):
         return [quote for block in quoted.BLOCK.findall(self.text) for quote in quoted.commands(block)]
@@ -33,7 +34,8 @@ class Course(unittest.TestCase):
             section = self.sections[name[0]]
             self.assertIn("`docs/course/%s.day`" % name, section)
             self.assertIn("](course/%s.svg)" % name, section)
-            self.assertEqual(re.findall(r"^\*\*(Question [0-9]|Answer)\.\*\* \S", section, re.MULTILINE), ["Question 1", "Answer", "Question 2", "Answer"])
+            asked = re.findall(r"^\*\*(Question [0-9]|Answer)\.\*\* \S", section, re.MULTILINE)
+            self.assertEqual(asked, ["Question 1", "Answer", "Question 2", "Answer"])
 
     def test_tables_are_what_is_printed(self):
         tables = [quote for quote in self.quotes() if "day/day run" in quote[0]]
@@ -45,7 +47,8 @@ class Course(unittest.TestCase):
     def test_reasons_are_what_is_printed(self):
         reasons = [quote for quote in self.quotes() if "day/day why" in quote[0]]
         self.assertGreaterEqual(len(reasons), 5)
-        self.assertEqual(len(reasons) + sum("day/day run" in command for command, _ in self.quotes()), len(self.quotes()))
+        tables = [quote for quote in self.quotes() if "day/day run" in quote[0]]
+        self.assertEqual(len(reasons) + len(tables), len(self.quotes()))
         for command, stands in reasons:
             self.assertEqual(quoted.printed(command), stands, command)
 
@@ -67,7 +70,8 @@ class Course(unittest.TestCase):
             result = report.read_report(programs.lines_of("job", job, steps), day.working_order())
             history = turns.read_history(programs.lines_of("history", job, steps))
             shown = table.table(day, result, name) + "".join(why.why(day, history, step) for step in range(steps))
-            self.assertEqual(asked - {number + " C" for number in re.findall(r"\b[0-9]+\.[0-9]{2}\b", shown)}, set(), name)
+            known = {number + " C" for number in re.findall(r"\b[0-9]+\.[0-9]{2}\b", shown)}
+            self.assertEqual(asked - known, set(), name)
             count += len(asked)
         self.assertGreater(count, 10)
 

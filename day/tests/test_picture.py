@@ -19,14 +19,17 @@ def random_day(seed, layers, heaters, steps, length=1.0, refused=0.05):
     chance = random.Random(seed)
     lines = [tank(layers=layers, length=length)]
     for _ in range(heaters):
-        lines.append("heater rated power %d kW, position %.2f of height, thermostat %.2f of height\n" % (chance.randint(1, 3), chance.random() * 0.99, chance.random() * 0.99))
+        rated, position, thermostat = chance.randint(1, 3), chance.random() * 0.99, chance.random() * 0.99
+        form = "heater rated power %d kW, position %.2f of height, thermostat %.2f of height\n"
+        lines.append(form % (rated, position, thermostat))
     for _ in range(steps):
         parts = ["step feed %s C" % ("nan" if chance.random() < refused else "10")]
         if chance.random() < 0.2:
             parts.append("draws %d %d litres" % (chance.randint(1, 40), chance.randint(1, 40)))
         for place in range(heaters):
             lower = chance.randint(40, 55)
-            parts.append("heater %d %s" % (place, chance.choice(["none", "upper %d C" % lower, "lower %d C upper %d C" % (lower, lower + 8)])))
+            points = ["none", "upper %d C" % lower, "lower %d C upper %d C" % (lower, lower + 8)]
+            parts.append("heater %d %s" % (place, chance.choice(points)))
         lines.append(", ".join(parts) + "\n")
     return day_of("".join(lines))
 
@@ -64,7 +67,9 @@ def steps_in(part):
     return set(range(first, last + 1))
 
 
-SHAPES = [(1, 0, 1, 1.0), (1, 1, 3, 0.5), (2, 3, 30, 0.25), (4, 2, 48, 1.0), (7, 8, 60, 1.0), (32, 8, 200, 0.1), (32, 0, 2000, 0.25), (4, 1, 1500, 1.0), (5, 2, 40, 1e-9), (3, 1, 20, 1e6)]
+# Layers, heaters, steps, step length.
+SHAPES = [(1, 0, 1, 1.0), (1, 1, 3, 0.5), (2, 3, 30, 0.25), (4, 2, 48, 1.0), (7, 8, 60, 1.0), (32, 8, 200, 0.1)]
+SHAPES += [(32, 0, 2000, 0.25), (4, 1, 1500, 1.0), (5, 2, 40, 1e-9), (3, 1, 20, 1e6)]
 
 
 @needs_history
@@ -119,8 +124,11 @@ class Picture(unittest.TestCase):
             read = [temperature(float(point.split(",")[1])) for point in line.get("points").split()]
             for shown, value in zip(read, [55.0] + [step.layers[layer] for step in result.steps]):
                 self.assertAlmostEqual(shown, value, delta=0.05 * abs((t1 - t0) / (y1 - y0)) + 0.02)
-        began = {(int(part.get("data-step")), int(part.get("data-heater"))): float(part.get("cy")) for part in of_class(root, "begin")}
-        told = {(step.index, turn.heater): turn.begin for step in history.steps if not step.number for turn in step.turns}
+        began = {}
+        for part in of_class(root, "begin"):
+            began[int(part.get("data-step")), int(part.get("data-heater"))] = float(part.get("cy"))
+        accepted = [step for step in history.steps if not step.number]
+        told = {(step.index, turn.heater): turn.begin for step in accepted for turn in step.turns}
         self.assertEqual(set(began), set(told))
         for key, y in began.items():
             self.assertAlmostEqual(temperature(y), told[key], delta=0.1)
@@ -128,7 +136,9 @@ class Picture(unittest.TestCase):
     def test_title_axes_units_and_legend(self):
         _, _, root = drawn(random_day(3, 4, 2, 24, refused=0.2), "Monday & <Tuesday>")
         texts = [part.text for part in root.iter(SVG + "text")]
-        for word in ("Monday & <Tuesday>", "hours from the begin of step 0", "temperature, °C", "draws, l", "flag h0", "flag h1", "layers", "set points", "top", "bottom", "0", "24"):
+        axes = ["hours from the begin of step 0", "temperature, °C", "draws, l", "tank", "0", "24"]
+        key = ["flag h0", "flag h1", "layers", "set points", "top", "bottom", "heater", "thermostat", "°C"]
+        for word in ["Monday & <Tuesday>"] + axes + key:
             self.assertIn(word, texts)
         self.assertTrue(any(text.startswith("refused 7: The feed temperature") for text in texts))
 

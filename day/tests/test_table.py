@@ -13,11 +13,13 @@ import refusals
 import report
 import table
 
-HEATERS = "heater rated power 3 kW, position 0.6 of height\nheater rated power 2 kW, position 0.1 of height, thermostat 0.4 of height\n"
-POINTS = "heater 0 lower 50 C upper 60 C, heater 1 lower 40 C upper 60 C\n"
-SMALL = tank() + HEATERS + "".join(
-    "step feed %s C, %s%s" % (feed, draws, POINTS) for feed, draws in (("10", "draws 40 50 litres, "), ("nan", ""), ("10", ""))
+HEATERS = (
+    "heater rated power 3 kW, position 0.6 of height\n"
+    "heater rated power 2 kW, position 0.1 of height, thermostat 0.4 of height\n"
 )
+POINTS = "heater 0 lower 50 C upper 60 C, heater 1 lower 40 C upper 60 C\n"
+BEGINS = ("10 C, draws 40 50 litres", "nan C", "10 C")
+SMALL = tank() + HEATERS + "".join("step feed %s, %s" % (begin, POINTS) for begin in BEGINS)
 
 
 def positions(job):
@@ -48,7 +50,8 @@ class CommaSeparated(unittest.TestCase):
                 continue
             place = positions(job)
             # Rising position, and the place in the file where two are equal.
-            order = [index for _, index in sorted((value, index) for index, value in enumerate(place))] if stored_end(lines) is None else []
+            pairs = [(value, index) for index, value in enumerate(place)]
+            order = [index for _, index in sorted(pairs)] if stored_end(lines) is None else []
             shown = table.comma_separated(day, report.read_report(lines, day.working_order()))
             rows = list(csv.DictReader(io.StringIO(shown)))
             expected = self.rows_of(lines, order)
@@ -56,7 +59,8 @@ class CommaSeparated(unittest.TestCase):
             for row, values in zip(rows, expected):
                 for column, digits in values.items():
                     found = row[column]
-                    self.assertEqual(bits(float(found)) if len(digits) == 16 else found, digits, "%s, step %s, %s" % (name, row["step"], column))
+                    found = bits(float(found)) if len(digits) == 16 else found
+                    self.assertEqual(found, digits, "%s, step %s, %s" % (name, row["step"], column))
                     rows_seen += 1
         self.assertGreater(rows_seen, 10000)
 
@@ -78,7 +82,8 @@ class CommaSeparated(unittest.TestCase):
 
     def test_layers_from_the_top_down(self):
         heading = table.comma_separated(*told(SMALL)[:2]).splitlines()[0].split(",")
-        self.assertEqual([name for name in heading if name.startswith("layer")], ["layer 3 C", "layer 2 C", "layer 1 C", "layer 0 C"])
+        layers = [name for name in heading if name.startswith("layer")]
+        self.assertEqual(layers, ["layer 3 C", "layer 2 C", "layer 1 C", "layer 0 C"])
 
 
 class Program(unittest.TestCase):
@@ -119,7 +124,8 @@ class Table(unittest.TestCase):
         for row, step in zip((row for row in self.rows(["step", "hour"]) if "refused" not in row), accepted):
             words = row.split()
             shown = [float(word) for word in words[2:10]]
-            for number, value, room in zip(shown, list(step.totals) + step.layers[::-1], [5e-5, 5e-3, 5e-3, 5e-5] + [5e-3] * 4):
+            values, rooms = list(step.totals) + step.layers[::-1], [5e-5, 5e-3, 5e-3, 5e-5] + [5e-3] * 4
+            for number, value, room in zip(shown, values, rooms):
                 self.assertLessEqual(abs(number - value), room * 1.001)
             self.assertEqual(words[10:], ["on" if step.heaters[place].flag else "off" for place in (1, 0)])
         for row, step in zip(self.rows(["step", "adjusted"]), accepted):
@@ -146,18 +152,19 @@ class Table(unittest.TestCase):
         self.test_columns_line_up()
 
 
+ONE = "heater rated power 1 kW, position 0 of height\n"
 REFUSALS = [
     (6, tank() + "step feed 10 C, draws %s litres\n" % " ".join(["1"] * 65)),
     (7, tank() + "step feed inf C\n"),
     (7, tank() + "step feed 10 C, draws -1 litres\n"),
-    (8, tank() + "heater rated power 1 kW, position 0 of height\nstep feed 10 C, heater 0 lower 50 C\n"),
-    (9, tank(2).replace("volume 150", "volume 5e-324") + "heater rated power 1 kW, position 0 of height\nstep feed 10 C, heater 0 none\n"),
+    (8, tank() + ONE + "step feed 10 C, heater 0 lower 50 C\n"),
+    (9, tank(2).replace("volume 150", "volume 5e-324") + ONE + "step feed 10 C, heater 0 none\n"),
     (10, tank().replace("density 1 ", "density 1e308 ").replace("0.001163", "1") + "step feed 10 C, draws 20 litres\n"),
 ]
 ENDINGS = [
     (1, 1, tank(0)),
     (1, 1, tank(33)),
-    (2, 10, tank() + "heater rated power 1 kW, position 0 of height\n" * 9 + "step feed 10 C" + "".join(", heater %d none" % i for i in range(9)) + "\n"),
+    (2, 10, tank() + ONE * 9 + "step feed 10 C" + "".join(", heater %d none" % i for i in range(9)) + "\n"),
     (3, 2, "# words\n" + tank().replace("150", "nan")),
     (4, 1, tank(initial="inf")),
     (5, 3, tank() + "\nheater rated power 1 kW, position 1 of height\n"),
@@ -178,7 +185,8 @@ class Refused(unittest.TestCase):
             day, result, lines = told(text)
             self.assertEqual(lines[-1].split()[:2], ["E", "%d" % number], text)
             shown = " ".join(table.table(day, result, "a.day").split())
-            self.assertIn("The job ended at line %d (byte %d of its job): refusal %d. %s" % (line, result.ended[1], number, refusals.WORDS[number]), shown)
+            where = "line %d (byte %d of its job)" % (line, result.ended[1])
+            self.assertIn("The job ended at %s: refusal %d. %s" % (where, number, refusals.WORDS[number]), shown)
 
     def test_past_what_the_program_reads(self):
         """64 bytes of tank and 16 a step: the limit falls between two steps, or with one draw more into a step."""

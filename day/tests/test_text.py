@@ -16,7 +16,7 @@ SPECIAL += ["7fefffffffffffff", "ffefffffffffffff", "0010000000000000", "3ff0000
 
 
 class Bytes:
-    """A random job, written by hand beside the job that must come back: one pattern for not-a-number, zeros for what is absent."""
+    """A random job beside the job that must come back: one pattern for not-a-number, zeros for what is absent."""
 
     def __init__(self, seed):
         self.random = random.Random(seed)

@@ -1,4 +1,4 @@
-"""What a flag remembers: true by 01's own comparisons, and the flag that the judge stored, after every step of every stored job."""
+"""What a flag remembers: true by 01's own comparisons, and the stored flag, after every step of every stored job."""
 
 import functools
 import os
@@ -47,7 +47,8 @@ class StoredJobs(unittest.TestCase):
             for step, (number, stored) in zip(history.steps, steps):
                 if not number:
                     told = [("%d" % turn.flag, bits(turn.supplied)) for turn in step.turns]
-                    self.assertEqual(told, [(words[0], words[2]) for words in stored], "%s, step %d" % (name, step.index))
+                    lines_h = [(words[0], words[2]) for words in stored]
+                    self.assertEqual(told, lines_h, "%s, step %d" % (name, step.index))
                     seen += len(told)
         self.assertGreater(seen, 1000)
 
@@ -119,7 +120,8 @@ class Words(unittest.TestCase):
         self.assertEqual(status, 0)
         self.assertIn("After step 2 (hour 2): h0 is on. It came on in step 0 (hour 0):", told)
         self.assertIn("its thermostat layer at 40.00 C, at or under the lower set point of 50 C.", told)
-        self.assertIn("In no accepted step from that one on (3 so far) did its turn end with the upper set point missing or reached", told)
+        self.assertIn("In no accepted step from that one on (3 so far) did its turn end", told)
+        self.assertIn("with the upper set point missing or reached;", told)
         self.assertIn("step 2 ended at 55.00 C, under 60 C.", told)
 
     def test_reached(self):
@@ -130,14 +132,17 @@ class Words(unittest.TestCase):
 
     def test_missing(self):
         _, told = self.told(FIGURE + 2 * ASKED + 2 * UNSET)
-        self.assertIn("h0 is off. It went off in step 2 (hour 2): its turn ended with the upper set point missing (thermostat layer 50.00 C).", told)
+        self.assertIn("h0 is off. It went off in step 2 (hour 2): its turn ended", told)
+        self.assertIn("with the upper set point missing (thermostat layer 50.00 C).", told)
         self.assertIn("That was 1 step (1 h) earlier.", told)
-        self.assertIn("In no accepted step since did its turn begin at or under a lower set point. A lower set point was there in 0 of 1 steps.", told)
+        self.assertIn("In no accepted step since did its turn begin at or under a lower set point.", told)
+        self.assertIn("A lower set point was there in 0 of 1 steps.", told)
 
     def test_never(self):
         _, told = self.told(FIGURE + 3 * ASKED.replace("lower 50", "lower 39"))
-        self.assertIn("h0 is off. It was never on: in no accepted step did its turn begin at or under a lower set point.", told)
-        self.assertIn("A lower set point was there in 3 of 3 steps; nearest to it came step 0, which began at 40.00 C, above 39 C.", told)
+        self.assertIn("h0 is off. It was never on: in no accepted step did its turn begin", told)
+        nearest = "nearest to it came step 0, which began at 40.00 C, above 39 C."
+        self.assertIn("A lower set point was there in 3 of 3 steps; " + nearest, told)
 
     def test_refused_steps_do_not_count(self):
         _, told = self.told(FIGURE + ASKED + 2 * DROPPED)
