@@ -1,6 +1,7 @@
 """The table and the CSV show what the program printed: every figure, in its column."""
 
 import csv
+import hashlib
 import io
 import re
 import struct
@@ -171,7 +172,15 @@ ENDINGS = [
 ]
 
 
+# Of the list of refusals in document 01: its eleven lines, "1. The layers are ..." first.
+LIST_SHA256 = "0d1fb9779eafd209bc0e171d75ec33141fba4c4e2391e5d98dcfb8e7f481b072"
+
+
 class Refused(unittest.TestCase):
+    def test_words_are_those_of_01(self):
+        lines = "\n".join("%d. %s" % pair for pair in sorted(refusals.WORDS.items()))
+        self.assertEqual(hashlib.sha256(lines.encode()).hexdigest(), LIST_SHA256)
+
     def test_steps(self):
         for number, text in REFUSALS:
             day, result, lines = told(text)

@@ -2,6 +2,7 @@
 
 import os
 import random
+import re
 import struct
 import tempfile
 import unittest
@@ -233,6 +234,15 @@ class WrongLines(unittest.TestCase):
 
 
 class Readable(unittest.TestCase):
+    def test_the_example_of_the_readme(self):
+        with open(os.path.join(ROOT, "day", "README.md"), encoding="utf-8") as file:
+            (example,) = re.findall(r"```text\n(.*?)```", file.read(), re.DOTALL)
+        day = text.read_text(example.encode())
+        self.assertEqual((day.title, len(day.heaters), len(day.steps)), ("Monday", 2, 2))
+        self.assertEqual(day.steps[1].points, [(None, 65.0), (45.0, 50.0)])
+        done = day_command("run", "-", input=example.encode())
+        self.assertEqual((done.returncode, b"refused" in done.stdout), (0, False))
+
     def test_any_order_comments_and_line_ends(self):
         lines = "\ufeff# A title # and more\r\n" + tank().strip() + "  # the cylinder\r\n\r\n"
         lines += "heater\tposition 0.25  of height ,thermostat .5 of height, rated power +3 kW\r\n"
