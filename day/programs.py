@@ -29,7 +29,7 @@ class Progress:
         self.next = now + (0.2 if self.same_line else 5)
         self.shown = True
         end = "\r" if self.same_line else "\n"
-        print("%s: %d of %d" % (self.what, count, self.total), end=end, file=sys.stderr, flush=True)
+        print("%s %d of %d" % (self.what, count, self.total), end=end, file=sys.stderr, flush=True)
 
     def done(self):
         if self.shown and self.same_line:

@@ -11,6 +11,8 @@ DAY = os.path.dirname(TESTS)
 ROOT = os.path.dirname(DAY)
 sys.path[:0] = [DAY, TESTS]
 
+import text  # noqa: E402
+
 # The program history is to come: True once `rt check history` builds it. Until then the tests that need it are skipped,
 # and day/test says so.
 HISTORY_READY = False
@@ -63,7 +65,5 @@ def tank(layers=4, initial=55, length=1):
     return TANK.format(layers=layers, initial=initial, length=length)
 
 
-def day_of(text):
-    import text as texts
-
-    return texts.read_text(text.encode())
+def day_of(lines):
+    return text.read_text(lines.encode())

@@ -7,7 +7,9 @@ import os
 import re
 import subprocess
 
-ROOT = os.path.dirname(os.path.dirname(os.path.dirname(os.path.abspath(__file__))))
+from common import ROOT
+import files
+
 COURSE = os.path.join(ROOT, "docs", "COURSE.md")
 FOLDER = os.path.join(ROOT, "docs", "course")
 BLOCK = re.compile(r"```console\n(.*?)```\n", re.DOTALL)
@@ -48,8 +50,7 @@ def main():
         text = file.read()
     for name in days():
         print(printed("day/day draw docs/course/%s.day -o docs/course/%s.svg" % (name, name)), end="")
-    with open(COURSE, "w", encoding="utf-8") as file:
-        file.write(BLOCK.sub(anew, text))
+    files.write_whole(COURSE, BLOCK.sub(anew, text).encode())
 
 
 if __name__ == "__main__":

@@ -104,7 +104,7 @@ class Said(Folder):
     def test_progress(self):
         done = day_command("run", self.day, "--programs", self.programs(40, 0.04))
         self.assertEqual(done.returncode, 0)
-        self.assertRegex(done.stderr, rb"job: step: [0-9]+ of 40\n")
+        self.assertRegex(done.stderr, rb"job: step [0-9]+ of 40\n")
         self.assertIn(b"Refused, steps 0 to 39: refusal 7.", done.stdout)
 
     def test_no_progress_where_it_is_quick(self):
