@@ -1,0 +1,3 @@
+"""The picture of a day as one SVG file."""
+
+from picture.whole import picture  # noqa: F401

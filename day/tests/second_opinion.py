@@ -1,0 +1,83 @@
+"""What history must print for a job, by document 01 written in Python (compare/model.py).
+
+As a command it reads a job and prints the lines: python3 day/tests/second_opinion.py < JOB
+"""
+
+import os
+import struct
+import sys
+
+ROOT = os.path.dirname(os.path.dirname(os.path.dirname(os.path.abspath(__file__))))
+sys.path.insert(0, os.path.join(ROOT, "compare"))
+
+import model  # noqa: E402
+
+
+def bits(value):
+    """As the programs print: one pattern for every not-a-number."""
+    if value is None:
+        return "-"
+    return "7ff8000000000000" if value != value else struct.pack(">d", value).hex()
+
+
+def at_or_under(temperature, lower):
+    """01's narrow-close, or below."""
+    return temperature < lower or model.narrow(temperature, lower)
+
+
+def reached(temperature, upper):
+    return temperature > upper or model.narrow(temperature, upper)
+
+
+def turn_line(tank, heater, flag, begin, points, done):
+    lower, upper = points
+    ran = flag
+    if upper is None:
+        ran = False
+    elif lower is not None and at_or_under(begin, lower):
+        ran = True
+    place = heater.position if heater.thermostat is None else heater.thermostat
+    end = done.layers[model.whole(place * tank.count)]
+    number = next(i for i, other in enumerate(tank.heaters) if other is heater)
+    words = [bits(begin), bits(end), bits(lower), bits(upper), "%d" % ran, "%d" % done.flag, bits(done.supplied)]
+    return " ".join(["T %d" % number] + words)
+
+
+def history_lines(job):
+    """The model's own turns, noted as it works them."""
+    noted, steps = [], []
+    turn, run_step = model.turn, model.run_step
+
+    def noting_turn(tank, heater, flag, begin, points, charged):
+        done = turn(tank, heater, flag, begin, points, charged)
+        place = heater.position if heater.thermostat is None else heater.thermostat
+        thermostat = begin[model.whole(place * tank.count)]
+        noted.append(turn_line(tank, heater, flag, thermostat, points, done))
+        return done
+
+    def noting_step(tank, step):
+        noted.clear()
+        try:
+            return run_step(tank, step)
+        finally:
+            steps.append(list(noted))
+
+    model.turn, model.run_step = noting_turn, noting_step
+    try:
+        lines = model.job_lines(job)
+    finally:
+        model.turn, model.run_step = turn, run_step
+    out, index = [], 0
+    for line in lines:
+        if line.startswith("S "):
+            out.append(" ".join(line.split(" ")[:3]))
+            out += steps[index]
+            index += 1
+        elif line.startswith("E "):
+            out.append(line)
+    return out
+
+
+if __name__ == "__main__":
+    for printed in history_lines(sys.stdin.buffer.read()):
+        print(printed)

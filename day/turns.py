@@ -1,0 +1,58 @@
+"""The lines that the program history prints, as numbers. This is the only place that knows their form.
+
+    S index number                                             before the turns of each step; number 0: accepted
+    T heater begin end lower upper ran flag supplied           a turn that got past its mixing, in working order
+    E number offset                                            a refusal outside a step
+
+`heater` is its place in the file; `begin` and `end` are the temperature of its thermostat layer where its turn began
+and where it ended; a set point that is not there is `-`; `ran` is the flag after the switch-on, `flag` that at the
+turn's end. Doubles are 16 hexadecimal digits of their bits.
+"""
+
+from collections import namedtuple
+
+from report import WrongOutput, double
+
+Turn = namedtuple("Turn", "heater begin end lower upper ran flag supplied")
+StepTurns = namedtuple("StepTurns", "index number turns")
+History = namedtuple("History", "steps ended")
+
+
+def set_point(word):
+    return None if word == "-" else double(word)
+
+
+def bit(word):
+    return {"0": False, "1": True}[word]
+
+
+def read_turn(parts):
+    heater, begin, end, lower, upper, ran, flag, supplied = parts
+    points = (set_point(lower), set_point(upper))
+    return Turn(int(heater), double(begin), double(end), *points, bit(ran), bit(flag), double(supplied))
+
+
+def read_line(line, steps):
+    """Adds to the steps what a line says; the answer is what a line `E` says."""
+    kind, *parts = line.split(" ")
+    if kind == "S":
+        index, number = map(int, parts)
+        steps.append(StepTurns(index, number, []))
+    elif kind == "T":
+        steps[-1].turns.append(read_turn(parts))
+    elif kind == "E":
+        number, offset = map(int, parts)
+        return number, offset
+    else:
+        raise ValueError(kind)
+    return None
+
+
+def read_history(lines):
+    steps, ended = [], None
+    for line in lines:
+        try:
+            ended = read_line(line, steps) or ended
+        except (ValueError, IndexError, KeyError):
+            raise WrongOutput("history: a line that cannot be read: '%s'" % line) from None
+    return History(steps, ended)
