@@ -1,19 +1,20 @@
 """The lines that the program history prints, as numbers. This is the only place that knows their form.
 
     S index number                                             before the turns of each step; number 0: accepted
-    T heater begin end lower upper ran flag supplied           a turn that got past its mixing, in working order
+    T heater begin end lower upper ran flag supplied rounds    a turn, in working order, refused steps as far as they got
     E number offset                                            a refusal outside a step
 
 `heater` is its place in the file; `begin` and `end` are the temperature of its thermostat layer where its turn began
 and where it ended; a set point that is not there is `-`; `ran` is the flag after the switch-on, `flag` that at the
-turn's end. Doubles are 16 hexadecimal digits of their bits.
+turn's end; `rounds` are those of its mixing, and 0 where that was refused: the turn then ended where it began, and
+supplied nothing that can be told (not-a-number). Doubles are 16 hexadecimal digits of their bits.
 """
 
 from collections import namedtuple
 
 from report import WrongOutput, double
 
-Turn = namedtuple("Turn", "heater begin end lower upper ran flag supplied")
+Turn = namedtuple("Turn", "heater begin end lower upper ran flag supplied rounds")
 StepTurns = namedtuple("StepTurns", "index number turns")
 History = namedtuple("History", "steps ended")
 
@@ -27,9 +28,9 @@ def bit(word):
 
 
 def read_turn(parts):
-    heater, begin, end, lower, upper, ran, flag, supplied = parts
+    heater, begin, end, lower, upper, ran, flag, supplied, rounds = parts
     points = (set_point(lower), set_point(upper))
-    return Turn(int(heater), double(begin), double(end), *points, bit(ran), bit(flag), double(supplied))
+    return Turn(int(heater), double(begin), double(end), *points, bit(ran), bit(flag), double(supplied), int(rounds))
 
 
 def read_line(line, steps):

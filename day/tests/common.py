@@ -4,7 +4,6 @@ import os
 import struct
 import subprocess
 import sys
-import unittest
 
 TESTS = os.path.dirname(os.path.abspath(__file__))
 DAY = os.path.dirname(TESTS)
@@ -12,13 +11,6 @@ ROOT = os.path.dirname(DAY)
 sys.path[:0] = [DAY, TESTS]
 
 import text  # noqa: E402
-
-# The program history is to come: True once `rt check history` builds it. Until then the tests that need it are skipped,
-# and day/test says so.
-HISTORY_READY = False
-NEEDS_HISTORY = "NEEDS target/bin/history (HISTORY_READY in day/tests/common.py is False)"
-
-needs_history = unittest.skipUnless(HISTORY_READY, NEEDS_HISTORY)
 
 
 def stored_jobs():

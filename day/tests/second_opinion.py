@@ -29,18 +29,22 @@ def reached(temperature, upper):
     return temperature > upper or model.narrow(temperature, upper)
 
 
-def turn_line(tank, heater, flag, begin, points, done):
+def turn_line(tank, heater, flag, layers, points, done):
+    """`done` is what the turn came to, or None where its mixing was refused: the turn then ended where it began."""
     lower, upper = points
     ran = flag
+    place = heater.position if heater.thermostat is None else heater.thermostat
+    layer = model.whole(place * tank.count)
     if upper is None:
         ran = False
-    elif lower is not None and at_or_under(begin, lower):
+    elif lower is not None and at_or_under(layers[layer], lower):
         ran = True
-    place = heater.position if heater.thermostat is None else heater.thermostat
-    end = done.layers[model.whole(place * tank.count)]
     number = next(i for i, other in enumerate(tank.heaters) if other is heater)
-    words = [bits(begin), bits(end), bits(lower), bits(upper), "%d" % ran, "%d" % done.flag, bits(done.supplied)]
-    return " ".join(["T %d" % number] + words)
+    end, flag, supplied, rounds = layers[layer], ran, float("nan"), 0
+    if done is not None:
+        end, flag, supplied, rounds = done.layers[layer], done.flag, done.supplied, done.rounds
+    words = [bits(layers[layer]), bits(end), bits(lower), bits(upper), "%d" % ran, "%d" % flag, bits(supplied)]
+    return " ".join(["T %d" % number] + words + ["%d" % rounds])
 
 
 def history_lines(job):
@@ -49,10 +53,13 @@ def history_lines(job):
     turn, run_step = model.turn, model.run_step
 
     def noting_turn(tank, heater, flag, begin, points, charged):
-        done = turn(tank, heater, flag, begin, points, charged)
-        place = heater.position if heater.thermostat is None else heater.thermostat
-        thermostat = begin[model.whole(place * tank.count)]
-        noted.append(turn_line(tank, heater, flag, thermostat, points, done))
+        layers = list(begin)
+        try:
+            done = turn(tank, heater, flag, begin, points, charged)
+        except model.Refusal:
+            noted.append(turn_line(tank, heater, flag, layers, points, None))
+            raise
+        noted.append(turn_line(tank, heater, flag, layers, points, done))
         return done
 
     def noting_step(tank, step):

@@ -4,7 +4,7 @@ import os
 import re
 import unittest
 
-from common import day_command, needs_history
+from common import day_command
 import programs
 import quoted
 import records
@@ -43,7 +43,6 @@ class Course(unittest.TestCase):
         for command, stands in tables:
             self.assertEqual(quoted.printed(command), stands, command)
 
-    @needs_history
     def test_reasons_are_what_is_printed(self):
         reasons = [quote for quote in self.quotes() if "day/day why" in quote[0]]
         self.assertGreaterEqual(len(reasons), 5)
@@ -52,13 +51,11 @@ class Course(unittest.TestCase):
         for command, stands in reasons:
             self.assertEqual(quoted.printed(command), stands, command)
 
-    @needs_history
     def test_pictures_are_what_is_drawn(self):
         for name in quoted.days():
             with open(quoted.picture_path(name), "rb") as file:
                 self.assertEqual(day_command("draw", "docs/course/%s.day" % name).stdout, file.read(), name)
 
-    @needs_history
     def test_temperatures_in_the_words_are_the_programs(self):
         """Each `56.44 C` of a section stands in the table of its day or among the reasons after some step."""
         count = 0

@@ -5,7 +5,7 @@ import re
 import unittest
 import xml.etree.ElementTree as ElementTree
 
-from common import day_of, needs_history, tank
+from common import day_of, tank
 import picture
 import programs
 import records
@@ -72,7 +72,6 @@ SHAPES = [(1, 0, 1, 1.0), (1, 1, 3, 0.5), (2, 3, 30, 0.25), (4, 2, 48, 1.0), (7,
 SHAPES += [(32, 0, 2000, 0.25), (4, 1, 1500, 1.0), (5, 2, 40, 1e-9), (3, 1, 20, 1e6)]
 
 
-@needs_history
 class Picture(unittest.TestCase):
     def test_every_shape(self):
         for seed, (layers, heaters, steps, length) in enumerate(SHAPES):

@@ -5,7 +5,7 @@ import os
 import tempfile
 import unittest
 
-from common import bits, day_command, needs_history, stored_jobs
+from common import bits, day_command, stored_jobs
 import programs
 import second_opinion
 import turns
@@ -30,7 +30,6 @@ def stored_steps(lines):
     return steps
 
 
-@needs_history
 class StoredJobs(unittest.TestCase):
     def test_history_is_what_01_says(self):
         """Every line of history on every stored job, against document 01 written in Python."""
@@ -105,7 +104,6 @@ UNSET = "step feed 12 C, heater 0 none\n"
 DROPPED = "step feed nan C, heater 0 lower 50 C upper 60 C\n"
 
 
-@needs_history
 class Words(unittest.TestCase):
     def told(self, text, *options):
         with tempfile.TemporaryDirectory() as folder:

@@ -33,7 +33,7 @@ pub fn next_history(buf: &mut [u8], bytes: &[u8], j: Job) -> Printed
     ensures { λ r. ⌜ Turned (historyTurn (now (bytes .entry)) j) (now (buf .entry)) (now (buf .exit)) r ⌝ }
 {
     let d = j.design;
-    let r = job_reader::read::read_record(bytes, j.at, j.has_tank, d.heaters, j.steps != 0);
+    let r = job_reader::reader::read_at(bytes, j.at, j.has_tank, d.heaters, j.steps != 0);
     let next = r.next;
     let content = r.content;
     match content {

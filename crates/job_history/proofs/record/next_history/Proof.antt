@@ -5,8 +5,8 @@ use borrow.Author.Needs.{needs}
 use Rattle.job_history.proofs.record.next_history.Statement.{statement}
 use Rattle.job_history.proofs.record.next_history.Tie as tie
 
-read-record-requires : tie.Need-read-record-requires
-read-record-requires c κs = search needs
+read-at-requires : tie.Need-read-at-requires
+read-at-requires c κs = search needs
 
 enum-known-content : tie.Need-enum-known-content
 enum-known-content c = search needs
@@ -43,34 +43,34 @@ same-length c = search needs
 
 returns : tie.Need-returns
 unfolding turnOf historyOf historyTurn
-returns c = rw (← c .before .before .before .before .before .before .before .before .read-record .ensures, c .before .before .before .before .before .before .content .given .1, ← c .before .before .before .design-of .ensures) (c .before .before .make-tank .ensures)
+returns c = rw (← c .before .before .before .before .before .before .before .before .read-at .ensures, c .before .before .before .before .before .before .content .given .1, ← c .before .before .before .design-of .ensures) (c .before .before .make-tank .ensures)
 
 same-length-2 : tie.Need-same-length-2
 same-length-2 c = search needs
 
 returns-2 : tie.Need-returns-2
 unfolding turnOf historyOf historyTurn
-returns-2 c = rw (← c .before .before .before .before .before .before .before .read-record .ensures, c .before .before .before .before .before .content2 .given .1) (c .before .before .add-heater .ensures)
+returns-2 c = rw (← c .before .before .before .before .before .before .before .read-at .ensures, c .before .before .before .before .before .content2 .given .1) (c .before .before .add-heater .ensures)
 
 same-length-3 : tie.Need-same-length-3
 same-length-3 c = search needs
 
 returns-3 : tie.Need-returns-3
 unfolding turnOf historyOf historyTurn
-returns-3 c = rw (← c .before .before .before .before .before .before .before .before .before .before .read-record .ensures, c .before .before .before .before .before .before .before .before .content3 .given .1, ← c .before .before .before .step-of .ensures) (c .before .before .tell-step .ensures)
+returns-3 c = rw (← c .before .before .before .before .before .before .before .before .before .before .read-at .ensures, c .before .before .before .before .before .before .before .before .content3 .given .1, ← c .before .before .before .step-of .ensures) (c .before .before .tell-step .ensures)
 
 same-length-4 : tie.Need-same-length-4
 same-length-4 c = search needs
 
 returns-4 : tie.Need-returns-4
 unfolding turnOf historyOf historyTurn
-returns-4 c = rw (← c .before .before .before .before .before .before .read-record .ensures, c .before .before .before .before .enum-told .given .1) (c .before .before .end-or-refuse .ensures)
+returns-4 c = rw (← c .before .before .before .before .before .before .read-at .ensures, c .before .before .before .before .enum-told .given .1) (c .before .before .end-or-refuse .ensures)
 
 pub next-history-spec : {M : Type 1} → statement M
 next-history-spec =
     tie.close
     (tie.spec
-    read-record-requires
+    read-at-requires
     enum-known-content
     design-of-requires
     make-tank-requires
