@@ -126,7 +126,8 @@ def heater_words(heater):
 
 def tank_words(tank):
     layers = "%d layer%s" % (tank.layers, "s" if tank.layers != 1 else "")
-    return "%s, %s litres, step length %s hours" % (layers, decimal(tank.volume), decimal(tank.step_length))
+    hours = "hour" if tank.step_length == 1.0 else "hours"
+    return "%s, %s litres, step length %s %s" % (layers, decimal(tank.volume), decimal(tank.step_length), hours)
 
 
 def numbers(values):
