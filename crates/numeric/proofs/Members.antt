@@ -8,21 +8,34 @@ use native.Mathlib.Nat.{zero-add, eq-or-lt-of-le}
 use native.Mathlib.Omega.{arith}
 use lib.IntN.{ℤ}
 use lib.Dec.{T}
-use lib.Ieee.{Float, nan, inf, fin, binary64, add, sub, neg, fits, ofBits}
+use lib.Ieee.{Float, nan, inf, fin, binary64, add, sub, mul, neg, fits, ofBits}
 use lib.Ieee.Fits.{add-fits}
 use lib.Ieee.Scale.{finite}
 use Rattle.numeric.specs.declared.sum2.Accumulator.{Accumulator}
-use Rattle.numeric.specs.Double.{_⊕_, _⊖_, zero-f}
+use Rattle.numeric.specs.Double.{_⊕_, _⊖_, _⊛_, zero-f, one-f}
 use Rattle.numeric.specs.Turns.{turns, turns-split}
 use Rattle.numeric.specs.Zeros.{signed-zero, IsZero, SameValue}
 use Rattle.numeric.specs.Sum2.{nothing-added, accumulate, sumTurn}
 use Rattle.numeric.proofs.Difference.{minus-self}
-use Rattle.numeric.proofs.Zeros.{isMinusZero, zero-written, plus-zero, zero-plus, add-not-minus}
+use Rattle.numeric.proofs.Zeros.{isMinusZero, zero-written, plus-zero, zero-plus, times-one, add-not-minus}
 use Rattle.numeric.proofs.Finite.{sum-parts-finite}
+use Rattle.numeric.proofs.SameValue.{zero-product-right}
 
 -- what adding b to s loses, where x is their rounded sum
 abbrev lost : Float → Float → Float → Float
 lost s b x = (s ⊖ (x ⊖ (x ⊖ s))) ⊕ (b ⊖ (x ⊖ s))
+
+-- ---- a term times 0, and times 1
+pub finite-times-zero : (x : Float) → T (finite x) → IsZero (x ⊛ zero-f)
+unfolding ofBits
+finite-times-zero x h = zero-product-right x (signed-zero false) h (false, refl)
+
+pub fits-times-one : (x : Float) → T (fits binary64 x) → x ⊛ one-f ≡ x
+unfolding mul ofBits
+fits-times-one nan p = refl
+fits-times-one (inf true) p = refl
+fits-times-one (inf false) p = refl
+fits-times-one (fin s m e) p = times-one binary64 s m e p
 
 -- ---- what a Sum2 keeps: s is finite and neither s nor c is -0; or s is not finite, and c is not a number
 abbrev Settled : Float → Type 0
@@ -128,7 +141,7 @@ same-term a b c h (inr z) = zero-term a b h (z .0) ∙ sym (zero-term a c h (z .
 abbrev pub Among : ℕ → ℕ → ℕ → Type 0
 Among i k j = (i ≤ j) × (j < i + k)
 
-term-finite : (a : Accumulator) (b : Float) → T (finite (accumulate a b .s)) → T (finite (a .s)) × T (finite b)
+pub term-finite : (a : Accumulator) (b : Float) → T (finite (accumulate a b .s)) → T (finite (a .s)) × T (finite b)
 unfolding accumulate
 term-finite a b h = sum-parts-finite (a .s) b h
 

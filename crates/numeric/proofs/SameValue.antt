@@ -5,10 +5,10 @@ use mathlib.Core.Logic.{⊎-elim, inl, inr}
 use mathlib.Core.Bool.{Bool, true, false, _&&_, _||_, Bool·beq, true≢false}
 use Prim.Native.Nat.{ℕ, zero, suc, _*_, _<_}
 use native.Mathlib.Nat.{lt-irrefl, zero-lt-suc, mul-pos}
-use borrow.Author.Tests.{eqb-true}
+use borrow.Author.Tests.{eqb-true, eqb-false}
 use lib.Dec.{T, eqb}
 use lib.IntN.{ℤ}
-use lib.Ieee.{Float, nan, inf, fin, binary64, unlike, fits, eq, up, down}
+use lib.Ieee.{Float, nan, inf, fin, binary64, unlike, level, fits, eq, up, down}
 use lib.Ieee.Fits.{up-pos, down-pos}
 use lib.Ieee.Scale.{finite}
 use Rattle.numeric.specs.Double.{_⊛_}
@@ -55,6 +55,37 @@ equal-same (fin s m e) (fin t n g) a b h =
     let both = and-true (eqb (m * up e * down g) (n * up g * down e)) (Bool·beq s t || eqb (m * up e * down g) 0) h in
     signs m e n g (eqb-true (m * up e * down g) (n * up g * down e) (both .0)) s t a b (both .1)
 
+-- `==` looks at its two sides alike
+level-swap : (s t : Bool) (a b : ℕ) → level s a t b ≡ level t b s a
+level-swap s t a b = go (eqb a b) refl (eqb b a) refl
+  where
+    signs-swap : (s t : Bool) → Bool·beq s t ≡ Bool·beq t s
+    signs-swap true true = refl
+    signs-swap true false = refl
+    signs-swap false true = refl
+    signs-swap false false = refl
+
+    go : (x : Bool) → eqb a b ≡ x → (y : Bool) → eqb b a ≡ y → (x && (Bool·beq s t || eqb a 0)) ≡ (y && (Bool·beq t s || eqb b 0))
+    go true p true q = rw (signs-swap s t, eqb-true a b p) refl
+    go true p false q = absurd (eqb-false b a q (sym (eqb-true a b p)))
+    go false p true q = absurd (eqb-false a b p (sym (eqb-true b a q)))
+    go false p false q = refl
+
+pub equal-swap : (x y : Float) → eq x y ≡ eq y x
+unfolding eq
+equal-swap nan nan = refl
+equal-swap nan (inf t) = refl
+equal-swap nan (fin t n g) = refl
+equal-swap (inf s) nan = refl
+equal-swap (inf true) (inf true) = refl
+equal-swap (inf true) (inf false) = refl
+equal-swap (inf false) (inf true) = refl
+equal-swap (inf false) (inf false) = refl
+equal-swap (inf s) (fin t n g) = refl
+equal-swap (fin s m e) nan = refl
+equal-swap (fin s m e) (inf t) = refl
+equal-swap (fin s m e) (fin t n g) = level-swap s t (m * up e * down g) (n * up g * down e)
+
 pub same-back : (p q : Float) → SameValue p q → SameValue q p
 same-back p q h = ⊎-elim (λ e. inl (sym e)) (λ z. inr (z .1, z .0)) h
 
@@ -68,12 +99,12 @@ same-finite p q (inl e) h = rw (← e) h
 same-finite p q (inr z) h = rw (z .1 .1) tt
 
 -- ---- products
-zero-product-left : (x y : Float) → IsZero x → T (finite y) → IsZero (x ⊛ y)
+pub zero-product-left : (x y : Float) → IsZero x → T (finite y) → IsZero (x ⊛ y)
 zero-product-left x nan z h = absurd h
 zero-product-left x (inf t) z h = absurd h
 zero-product-left x (fin t n g) z h = rw (z .1) (unlike (z .0) t, zero-times binary64 (z .0) t n g)
 
-zero-product-right : (x y : Float) → T (finite x) → IsZero y → IsZero (x ⊛ y)
+pub zero-product-right : (x y : Float) → T (finite x) → IsZero y → IsZero (x ⊛ y)
 zero-product-right nan y h z = absurd h
 zero-product-right (inf s) y h z = absurd h
 zero-product-right (fin s m e) y h z = rw (z .1) (unlike s (z .0), times-zero binary64 s m e (z .0))

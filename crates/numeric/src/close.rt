@@ -15,7 +15,7 @@ pub fn is_infinite(x: f64) -> bool
     if x == infinity { true } else { x == -infinity }
 }
 
-fn is_within(a: f64, b: f64, e: f64) -> bool
+pub fn is_within(a: f64, b: f64, e: f64) -> bool
     ensures { λ r. ⌜ r ≡ within a b e ⌝ }
 {
     let distance = magnitude_of(a - b);
