@@ -46,7 +46,7 @@ fn does_join_finite(lower: f64, upper: f64) -> bool
     if lower >= upper {
         return true;
     }
-    numeric::close::is_within(lower, upper, 2.220446049250313e-16)
+    numeric::close::is_within_above(lower, upper, numeric::close::NARROW)
 }
 
 // The layers below a group that ends with `temp`, and the group itself.
@@ -113,6 +113,7 @@ fn join(r: RunningGroup, vol: &[f64; MAX_LAYERS], i: usize, v: f64, next: f64) -
     let own = v * next;
     let product = v * r.temp;
     let heat = numeric::sum2::add_term(r.heat, own);
+    // A volume counts times 1, as the definition has it; the compiled code leaves that out.
     let volume = numeric::sum2::add_term(r.volume, v * 1.0);
     let temp = numeric::sum2::total_of(heat) / numeric::sum2::total_of(volume);
     let met = r.met + own;

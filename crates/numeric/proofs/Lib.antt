@@ -9,3 +9,4 @@ pub mod Zeros
 pub mod Finite
 pub mod SameValue
 pub mod Members
+pub mod Within
