@@ -13,7 +13,7 @@ use Rattle.mixing.specs.Rearrange.{isSorted, rounds, rearrange}
 use Rattle.mixing.specs.Mix.{tempsOf}
 use Rattle.mixing.proofs.Group.{pair-bottom}
 
-fill-keeps : (n i end : ℕ) (x : Float) (temps : List Float) → i ≤ end → end ≤ n → Keeps n temps (fill i end x temps)
+pub fill-keeps : (n i end : ℕ) (x : Float) (temps : List Float) → i ≤ end → end ≤ n → Keeps n temps (fill i end x temps)
 fill-keeps n i end x temps h l =
     turns-keeps (λ (k : ℕ) (t : List Float). set t k x) n (λ k t m. keeps-set n t k x m) (end - i) i temps (omega arith)
 

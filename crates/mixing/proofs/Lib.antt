@@ -7,3 +7,11 @@ pub mod Array
 pub mod Order
 pub mod Figures
 pub mod Keeps
+pub mod Joins
+pub mod Fill
+pub mod Members
+pub mod InOrder
+pub mod Written
+pub mod Joining
+pub mod KeptHeat
+pub mod Parting

@@ -2,4 +2,5 @@
 pub mod Limits
 pub mod Round
 pub mod Rearrange
+pub mod Running
 pub mod Mix

@@ -23,7 +23,8 @@ pub fn is_sorted(n: usize, temps: &[f64; MAX_LAYERS]) -> bool
     true
 }
 
-// Works in place; a refused mixing puts back what it found.
+// Works in place; a refused mixing puts back what it found. A round is worked over the running group's layers alone; where a volume × temperature is not
+// finite, which no ordinary layers have, the mixing is worked again from the start, each sum over all layers.
 pub fn rearrange_temperatures(
     n: usize,
     vol: &[f64; MAX_LAYERS],
@@ -36,9 +37,12 @@ pub fn rearrange_temperatures(
     let limit = crate::limits::max_rounds(n);
     let mut k = 0;
     while k < limit {
-        crate::round::mix_round(n, vol, temps);
+        let round = crate::running::try_round(n, vol, temps);
+        if !round.finite {
+            return crate::plain::rearrange_plain(n, vol, &initial, temps);
+        }
         k += 1;
-        if is_sorted(n, temps) {
+        if round.sorted {
             return MixAnswer::Mixed(k);
         }
     }

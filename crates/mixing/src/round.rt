@@ -52,7 +52,7 @@ fn group_temp(
 }
 
 // The layers from bottom to below end take x.
-fn fill_group(bottom: usize, end: usize, x: f64, temps: &mut [f64; MAX_LAYERS])
+pub fn fill_group(bottom: usize, end: usize, x: f64, temps: &mut [f64; MAX_LAYERS])
     requires { ⌜ (bottom ≤ end) × (end ≤ maxLayers) ⌝ }
     ensures { λ r. ⌜ now (temps .exit) ≡ fill bottom end x (now (temps .entry)) ⌝ }
 {

@@ -4,3 +4,9 @@ pub mod WholePart
 pub mod Layer
 pub mod NotANumber
 pub mod Difference
+pub mod Rounding
+pub mod Zeros
+pub mod Finite
+pub mod SameValue
+pub mod Members
+pub mod Within

@@ -2,7 +2,7 @@
 -- `holds p k i` says that p holds of k places from i on.
 use Prim.Native.Nat.{ℕ, zero, suc, _+_, _-_, _≤_, _<_}
 use native.Mathlib.Omega.{arith}
-use native.Mathlib.Nat.{sub-zero, eq-or-lt-of-le}
+use native.Mathlib.Nat.{sub-zero, zero-add, add-zero, eq-or-lt-of-le}
 use mathlib.Core.Logic.{⊎-elim}
 use mathlib.Core.Path.{_≡_, refl, sym}
 use mathlib.Core.Bool.{Bool, true, false, _&&_, true≢false}
@@ -10,6 +10,10 @@ use mathlib.Core.Bool.{Bool, true, false, _&&_, true≢false}
 and-true : (a b : Bool) → (a && b) ≡ true → (a ≡ true) × (b ≡ true)
 and-true true b h = (refl, h)
 and-true false b h = absurd (true≢false (sym h))
+
+regroup : (a b c : Bool) → (a && (b && c)) ≡ (a && b && c)
+regroup true b c = refl
+regroup false b c = refl
 
 module _ (p : ℕ → Bool) where
   unfoldable pub holds : ℕ → ℕ → Bool
@@ -53,6 +57,15 @@ module _ (p : ℕ → Bool) where
   unfolding holds
   at-holds zero i h = refl
   at-holds (suc k) i h = rw (h i (omega arith) (omega arith)) (at-holds k (i + 1) (λ j l u. h j (omega arith) (omega arith)))
+
+  -- the places in two parts
+  pub holds-split : (k l i : ℕ) → holds (k + l) i ≡ (holds k i && holds l (i + k))
+  unfolding holds
+  holds-split zero l i = rw (zero-add, add-zero)
+  holds-split (suc k) l i =
+      let e : suc k + l ≡ suc (k + l) = omega arith in
+      let g : i + suc k ≡ i + 1 + k = omega arith in
+      rw (e, g, holds-split k l (i + 1)) (regroup (p i) (holds k (i + 1)) (holds l (i + 1 + k)))
 
 -- tests that agree at those places hold alike
 module _ (p q : ℕ → Bool) where

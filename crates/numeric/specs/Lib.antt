@@ -1,5 +1,6 @@
 -- The definitions of `numeric`: doubles and what 01, Arithmetic underneath, makes of them; how a specification writes a loop.
 pub mod Double
+pub mod Zeros
 pub mod Compare
 pub mod Close
 pub mod Turns

@@ -2,7 +2,7 @@
 -- `turns f k i s` is the state after k turns from i on, where the turn at i takes s to `f i s`.
 use Prim.Native.Nat.{ℕ, zero, suc, _+_, _-_, _≤_, _<_}
 use native.Mathlib.Omega.{arith}
-use native.Mathlib.Nat.{sub-zero, add-zero}
+use native.Mathlib.Nat.{sub-zero, add-zero, zero-add}
 use mathlib.Core.Path.{_≡_, refl}
 
 module _ {S : Type 0} (f : ℕ → S → S) where
@@ -70,6 +70,15 @@ module _ {S : Type 0} (f : ℕ → S → S) where
       let e : suc k + 1 ≡ suc (k + 1) = omega arith in
       let g : i + suc k ≡ i + 1 + k = omega arith in
       rw (e, g) (turns-more k (i + 1) (f i s))
+
+  -- turns in two parts
+  pub turns-split : (k l i : ℕ) (s : S) → turns (k + l) i s ≡ turns l (i + k) (turns k i s)
+  unfolding turns
+  turns-split zero l i s = rw (zero-add, add-zero)
+  turns-split (suc k) l i s =
+      let e : suc k + l ≡ suc (k + l) = omega arith in
+      let g : i + suc k ≡ i + 1 + k = omega arith in
+      rw (e, g) (turns-split k l (i + 1) (f i s))
 
 -- two loops side by side: what each pair of turns below n keeps between their states, the whole loops keep
 module _ {S U : Type 0} (f : ℕ → S → S) (g : ℕ → U → U) where

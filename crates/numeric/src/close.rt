@@ -1,6 +1,12 @@
 // Close, narrow and wide.
 ghost use mathlib.Core.Path.{_≡_};
+ghost use mathlib.Core.Bool.{true, false};
+ghost use lib.Ieee.{le};
+ghost use lib.Ieee.Scale.{finite};
 ghost use Rattle.numeric.specs.Close.{magnitude, infinite, within, close, narrowClose, wideClose};
+
+// The narrow tolerance, 2^-52.
+pub const NARROW: f64 = 2.220446049250313e-16;
 
 pub fn magnitude_of(x: f64) -> f64
     ensures { λ r. ⌜ r ≡ magnitude x ⌝ }
@@ -25,6 +31,20 @@ fn is_within(a: f64, b: f64, e: f64) -> bool
     distance <= 1e-9 * crate::compare::max_of_2(magnitude_of(a), magnitude_of(b))
 }
 
+// The same of finite numbers, b above a. Above zero they are their own magnitudes, and b is the larger.
+pub fn is_within_above(a: f64, b: f64, e: f64) -> bool
+    ensures { λ r. ⌜ (finite a ≡ true → finite b ≡ true → le b a ≡ false → r ≡ within a b e) ⌝ }
+{
+    if a > 0.0 {
+        let distance = b - a;
+        if distance <= 1e-9 * b {
+            return true;
+        }
+        return distance <= e;
+    }
+    is_within(a, b, e)
+}
+
 // Equal; or neither infinite, and the distance is at most e or at most 1e-9 of the larger magnitude.
 pub fn is_close(a: f64, b: f64, e: f64) -> bool
     ensures { λ r. ⌜ r ≡ close a b e ⌝ }
@@ -44,7 +64,7 @@ pub fn is_close(a: f64, b: f64, e: f64) -> bool
 pub fn is_narrow_close(a: f64, b: f64) -> bool
     ensures { λ r. ⌜ r ≡ narrowClose a b ⌝ }
 {
-    is_close(a, b, 2.220446049250313e-16)
+    is_close(a, b, NARROW)
 }
 
 pub fn is_wide_close(a: f64, b: f64) -> bool

@@ -1,5 +1,7 @@
 // Sum2: a sum that carries what each addition loses.
 ghost use mathlib.Core.Path.{_≡_};
+ghost use mathlib.Core.Bool.{true};
+ghost use lib.Ieee.Scale.{finite};
 ghost use Rattle.numeric.specs.Sum2.{nothing-added, accumulate, total, sum2};
 
 // The running sum and its correction.
@@ -23,6 +25,13 @@ pub fn add_term(a: Accumulator, b: f64) -> Accumulator
         s: x,
         c: a.c + ((a.s - (x - z)) + (b - z)),
     }
+}
+
+// A sum of one finite term. Nothing is lost, so the correction is 0; the term is added to 0, as -0 would stay otherwise.
+pub fn one_term(b: f64) -> Accumulator
+    ensures { λ r. ⌜ (finite b ≡ true → r ≡ accumulate nothing-added b) ⌝ }
+{
+    Accumulator { s: 0.0 + b, c: 0.0 }
 }
 
 pub fn total_of(a: Accumulator) -> f64

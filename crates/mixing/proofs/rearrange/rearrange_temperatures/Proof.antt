@@ -4,6 +4,7 @@ use mathlib.Core.Bool.{true, false}
 use Prim.Native.Nat.{_-_, _≤_}
 use native.Mathlib.Omega.{arith}
 use native.Mathlib.Nat.{sub-zero}
+use borrow.Author.Tests.{not-false}
 use Rattle.mixing.specs.Rearrange.{rounds, rearrange}
 use Rattle.mixing.specs.Mix.{answerOf, tempsOf}
 use Rattle.mixing.proofs.Rounds.{rounds-sorted, rounds-none, rounds-turn}
@@ -24,22 +25,27 @@ loop-holds : tie.Need-loop-holds Inv-loop μ-loop
 unfolding rearrange
 loop-holds c = (omega arith, refl, rw (sub-zero, c .max-rounds .ensures))
 
-mix-round-requires : tie.Need-mix-round-requires Inv-loop μ-loop
-mix-round-requires c κs = search needs
+try-round-requires : tie.Need-try-round-requires Inv-loop μ-loop
+try-round-requires c κs = search needs
+
+rearrange-plain-requires : tie.Need-rearrange-plain-requires Inv-loop μ-loop
+rearrange-plain-requires c κs = search needs
+
+returns : tie.Need-returns Inv-loop μ-loop
+returns c =
+    let same = c .before .before .before .before .before .before .before .before .loop .inv .1 in
+    rw same at (c .rearrange-plain .ensures)
 
 add-k : tie.Need-add-k Inv-loop μ-loop
 add-k c = search needs
 
-is-sorted-requires : tie.Need-is-sorted-requires Inv-loop μ-loop
-is-sorted-requires c κs = search needs
-
-returns : tie.Need-returns Inv-loop μ-loop
-returns c =
+returns-2 : tie.Need-returns-2 Inv-loop μ-loop
+returns-2 c =
     let ran = c .before .before .before in
     let test = ran .before .before in
     let at = test .before .loop in
-    let s = sym (c .before .is-sorted .ensures) ∙ c .if1 .taken in
-    let e = at .inv .2 ∙ (rounds-turn _ (at .k) _ _ _ _ true (test .loop-test .taken) (ran .mix-round .ensures) s ∙ rounds-sorted _ _ _ _ _) in
+    let round = ran .try-round .ensures (not-false _ (c .before .if1 .left)) in
+    let e = at .inv .2 ∙ (rounds-turn _ (at .k) _ _ _ _ true (test .loop-test .taken) (round .0) (sym (round .1) ∙ c .if2 .taken) ∙ rounds-sorted _ _ _ _ _) in
     (sym (ap answerOf e), sym (ap (tempsOf _) e))
 
 loop-less : tie.Need-loop-less Inv-loop μ-loop
@@ -50,11 +56,11 @@ loop-again c =
     let ran = c .before .before .before in
     let test = ran .before .before in
     let at = test .before .loop in
-    let s = sym (c .before .is-sorted .ensures) ∙ c .if1 .left in
-    (omega arith, at .inv .1, at .inv .2 ∙ rounds-turn _ (at .k) _ _ _ _ false (test .loop-test .taken) (ran .mix-round .ensures) s)
+    let round = ran .try-round .ensures (not-false _ (c .before .if1 .left)) in
+    (omega arith, at .inv .1, at .inv .2 ∙ rounds-turn _ (at .k) _ _ _ _ false (test .loop-test .taken) (round .0) (sym (round .1) ∙ c .if2 .left))
 
-returns-2 : tie.Need-returns-2 Inv-loop μ-loop
-returns-2 c =
+returns-3 : tie.Need-returns-3 Inv-loop μ-loop
+returns-3 c =
     let at = c .before .loop in
     let e = at .inv .2 ∙ rounds-none _ _ _ _ _ (omega arith) in
     (sym (ap answerOf e), at .inv .1 ∙ sym (ap (tempsOf _) e))
@@ -67,10 +73,11 @@ rearrange-temperatures-spec =
     μ-loop
     max-rounds-requires
     loop-holds
-    mix-round-requires
-    add-k
-    is-sorted-requires
+    try-round-requires
+    rearrange-plain-requires
     returns
+    add-k
+    returns-2
     loop-less
     loop-again
-    returns-2)
+    returns-3)

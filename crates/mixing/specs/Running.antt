@@ -1,0 +1,88 @@
+-- States what the code keeps while a round runs (01, Mix), and what that says of the round as Round defines it. No definition of a call cites this: it stands in
+-- the contracts of the functions that work a round, and a round that they work is proved to be `oneRound`.
+use Prim.Native.Nat.{ℕ, zero, suc, _+_, _-_, _≤_, _<_}
+use mathlib.Core.Bool.{Bool, true, not}
+use mathlib.Core.Path.{_≡_}
+use mathlib.Core.List.{List}
+use lib.Dec.{T}
+use lib.ListN.{getD}
+use lib.Ieee.{Float, nan, inf, binary64, fits, isNan}
+use lib.Ieee.Scale.{finite}
+use Rattle.numeric.specs.Double.{_⊕_, _⊛_, one-f}
+use Rattle.numeric.specs.Zeros.{SameValue}
+use Rattle.numeric.specs.Turns.{turns}
+use Rattle.numeric.specs.Holds.{holds}
+use Rattle.numeric.specs.Sum2.{nothing-added, accumulate, sumTurn}
+use Rattle.numeric.specs.declared.sum2.Accumulator.{Accumulator}
+use Rattle.mixing.specs.Round.{joins, fill, pair}
+use Rattle.mixing.specs.Rearrange.{rises}
+use Rattle.mixing.specs.declared.running.RunningGroup.{RunningGroup}
+
+-- ---- sums over a group's layers alone, from bottom to below end
+abbrev pub volumeSum : List Float → ℕ → ℕ → Accumulator
+volumeSum vol bottom end = turns (sumTurn (λ (k : ℕ). getD vol k nan ⊛ one-f)) (end - bottom) bottom nothing-added
+
+-- volume × temperature, where all of them have the temperature x
+abbrev pub heatSum : List Float → Float → ℕ → ℕ → Accumulator
+heatSum vol x bottom end = turns (sumTurn (λ (k : ℕ). getD vol k nan ⊛ x)) (end - bottom) bottom nothing-added
+
+-- volume × temperature is finite in each of n layers
+abbrev pub HeatFinite : ℕ → List Float → List Float → Type 0
+HeatFinite n vol temps = (k : ℕ) → k < n → T (finite (getD vol k nan ⊛ getD temps k nan))
+
+-- b says whether a pair joins, where both its temperatures are finite
+abbrev pub SaysJoins : Float → Float → Bool → Type 0
+SaysJoins lower upper b = T (finite lower) → T (finite upper) → joins lower upper ≡ b
+
+-- what stands below the layer `bottom`: minus infinity below the lowest
+abbrev pub layerBelow : List Float → ℕ → Float
+layerBelow temps zero = inf true
+layerBelow temps (suc k) = getD temps k nan
+
+-- the group's state after a pair that joins: `heat` is the sum at the new temperature, and its s answers for the products in it
+abbrev pub joinedGroup : RunningGroup → Float → Accumulator → Accumulator → Float → Float → RunningGroup
+joinedGroup r temp heat volume each met = record { bottom = r .bottom; temp = temp; heat = heat; volume = volume; each = each; below = r .below; sorted = r .sorted; met = met ⊕ heat .s }
+
+-- a group of the one layer i, of temperature `temp` and volume v, above `below`
+pub record Started (i : ℕ) (temp v below : Float) (sorted : Bool) (met : Float) (q : RunningGroup) : Type 0 where
+  pub bottom-is : q .bottom ≡ i
+  pub temp-is : q .temp ≡ temp
+  pub each-is : q .each ≡ v
+  pub below-is : q .below ≡ below
+  pub sorted-is : q .sorted ≡ sorted
+  pub met-is : q .met ≡ met ⊕ (v ⊛ temp)
+  pub temp-fits : T (fits binary64 temp)
+  pub volume-fits : T (fits binary64 v)
+  pub heat-is : T (finite (v ⊛ temp)) → q .heat ≡ accumulate nothing-added (v ⊛ temp)
+  pub volume-is : T (finite (v ⊛ temp)) → q .volume ≡ accumulate nothing-added (v ⊛ one-f)
+
+-- what an array holds when a group from bottom to below end has ended in it: one layer alone has its temperature already
+abbrev pub Ended : ℕ → ℕ → Float → List Float → List Float → Type 0
+Ended bottom end x old new = (bottom + 1 ≡ end → new ≡ old) × (bottom + 1 < end → new ≡ fill bottom end x old)
+
+-- ---- what is kept, after i pairs of a round over n layers that began with `first`: `temps` is the lent array, r what is kept beside it
+module _ (n : ℕ) (vol first : List Float) (i : ℕ) (temps : List Float) (r : RunningGroup) where
+  -- where every product met is finite
+  pub record AsDefined : Type 0 where
+    -- the walk by definition, in which the group's layers have its temperature already
+    pub walk : turns (pair n vol) i 0 (record { temps = first; bottom = 0 }) ≡ record { temps = fill (r .bottom) (i + 1) (r .temp) temps; bottom = r .bottom }
+    pub temp-fits : T (fits binary64 (r .temp))
+    pub layers-finite : HeatFinite n vol temps
+    pub group-finite : (k : ℕ) → r .bottom ≤ k → k < i + 1 → T (finite (getD vol k nan ⊛ r .temp))
+    -- the two sums over the group's layers
+    pub heat : r .heat ≡ heatSum vol (r .temp) (r .bottom) (i + 1)
+    pub volume : r .volume ≡ volumeSum vol (r .bottom) (i + 1)
+    -- where the volume of each is a number, each of them has it
+    pub each-fits : T (fits binary64 (r .each))
+    pub each : T (not (isNan (r .each))) → (k : ℕ) → r .bottom ≤ k → k < i + 1 → SameValue (getD vol k nan) (r .each)
+    -- a group of one layer has that layer's temperature
+    pub one-layer : r .bottom ≡ i → r .temp ≡ getD temps i nan
+    -- the layers below the group: the highest of them, and whether they are in order
+    pub below : r .below ≡ layerBelow temps (r .bottom)
+    pub order : r .sorted ≡ holds (rises temps) (r .bottom - 1) 0
+
+  pub record Follows : Type 0 where
+    pub ahead : (j : ℕ) → i < j → getD temps j nan ≡ getD first j nan
+    -- a finite `met` answers for the layers passed; where it is finite, and the layers ahead are fine too, what is kept is as defined
+    pub passed : T (finite (r .met)) → HeatFinite (i + 1) vol first
+    pub as-defined : T (finite (r .met)) → HeatFinite n vol first → AsDefined

@@ -1,0 +1,225 @@
+// A round of `rearrange_temperatures` that sums over the running group's layers alone, and writes a group's temperature when the group ends.
+// Where every volume × temperature that it meets is finite, it leaves what `round::mix_round` leaves: terms times 0 add nothing then.
+ghost use mathlib.Core.Path.{_≡_};
+ghost use mathlib.Core.Logic.{_⊎_};
+ghost use mathlib.Core.Bool.{true, false, cond};
+ghost use mathlib.Core.List.{List};
+ghost use Prim.Native.Nat.{ℕ, _+_, _≤_, _<_};
+ghost use lib.ListN.{getD};
+ghost use lib.Ieee.{Float, nan, le};
+ghost use Rattle.numeric.specs.Zeros.{SameValue};
+ghost use Rattle.numeric.specs.Sum2.{accumulate};
+ghost use Rattle.mixing.specs.Limits.{maxLayers};
+ghost use Rattle.mixing.specs.Round.{oneRound};
+ghost use Rattle.mixing.specs.Rearrange.{isSorted};
+ghost use Rattle.mixing.specs.Running.{heatSum, SaysJoins, joinedGroup, Started, Ended, Follows};
+use crate::limits::MAX_LAYERS;
+use numeric::sum2::Accumulator;
+
+// The running group, and what the round has met so far.
+pub struct RunningGroup {
+    // Its lowest layer, and the temperature of its layers.
+    pub bottom: usize,
+    pub temp: f64,
+    // Sum2 of volume × temp, and of volume, over its layers.
+    pub heat: Accumulator,
+    pub volume: Accumulator,
+    // The volume of each of its layers, not-a-number where they differ.
+    pub each: f64,
+    // The layer below it, minus infinity where there is none; and whether the layers below it are in order.
+    pub below: f64,
+    pub sorted: bool,
+    // A plain sum of the products met: it is finite only where each of them is.
+    pub met: f64,
+}
+
+// Whether every product met was finite, and if so whether the layers are in order after the round.
+pub struct RoundAnswer {
+    pub finite: bool,
+    pub sorted: bool,
+}
+
+// Of finite temperatures: hotter, equal, or narrow-close.
+fn does_join_finite(lower: f64, upper: f64) -> bool
+    ensures { λ r. ⌜ SaysJoins lower upper r ⌝ }
+{
+    if lower >= upper {
+        return true;
+    }
+    numeric::close::is_within_above(lower, upper, numeric::close::NARROW)
+}
+
+// The layers below a group that ends with `temp`, and the group itself.
+fn is_still_sorted(sorted: bool, below: f64, temp: f64) -> bool
+    ensures { λ r. ⌜ r ≡ cond sorted (le below temp) false ⌝ }
+{
+    if sorted { below <= temp } else { false }
+}
+
+// Sum2 of volume × x over the layers from bottom to below end.
+fn heat_at(vol: &[f64; MAX_LAYERS], bottom: usize, end: usize, x: f64) -> Accumulator
+    requires { ⌜ (bottom ≤ end) × (end ≤ maxLayers) ⌝ }
+    ensures { λ r. ⌜ r ≡ heatSum (now (vol .entry)) x bottom end ⌝ }
+{
+    let mut heat = numeric::sum2::start();
+    let mut k = bottom;
+    while k < end {
+        heat = numeric::sum2::add_term(heat, vol[k] * x);
+        k += 1;
+    }
+    heat
+}
+
+// The sum of a and b, where the sum of a and c is at hand: it serves where c equals b.
+fn add_known(a: Accumulator, b: f64, c: f64, known: Accumulator) -> Accumulator
+    requires { ⌜ known ≡ accumulate a c ⌝ }
+    ensures { λ r. ⌜ (r ≡ accumulate a b) ⊎ ((r ≡ accumulate a c) × SameValue c b) ⌝ }
+{
+    if c == b {
+        return known;
+    }
+    numeric::sum2::add_term(a, b)
+}
+
+// The group with one layer more, at its new temperature.
+fn joined(
+    r: RunningGroup,
+    temp: f64,
+    heat: Accumulator,
+    volume: Accumulator,
+    each: f64,
+    met: f64,
+) -> RunningGroup
+    ensures { λ q. ⌜ q ≡ joinedGroup r temp heat volume each met ⌝ }
+{
+    RunningGroup {
+        bottom: r.bottom,
+        temp,
+        heat,
+        volume,
+        each,
+        below: r.below,
+        sorted: r.sorted,
+        met: met + heat.s,
+    }
+}
+
+// The layer i + 1, of volume v and temperature `next`, joins the group. The heat at the group's new temperature goes on from what is kept where each
+// layer's product is what it was: one product tells, where the volumes are equal; otherwise the temperature must be the same.
+fn join(r: RunningGroup, vol: &[f64; MAX_LAYERS], i: usize, v: f64, next: f64) -> RunningGroup
+    requires { ⌜ (r .bottom ≤ i) × (i + 1 < maxLayers) × (v ≡ getD (now vol) (i + 1) nan) ⌝ }
+    ensures { λ q. ⌜ (q .bottom ≡ r .bottom) × ((n : ℕ) (first temps : List Float) → i + 1 < n → next ≡ getD temps (i + 1) nan → SaysJoins (r .temp) next true → Follows n (now (vol .entry)) first i temps r → Follows n (now (vol .entry)) first (i + 1) temps q) ⌝ }
+{
+    let own = v * next;
+    let product = v * r.temp;
+    let heat = numeric::sum2::add_term(r.heat, own);
+    // A volume counts times 1, as the definition has it; the compiled code leaves that out.
+    let volume = numeric::sum2::add_term(r.volume, v * 1.0);
+    let temp = numeric::sum2::total_of(heat) / numeric::sum2::total_of(volume);
+    let met = r.met + own;
+    if v == r.each {
+        if v * temp == product {
+            return joined(
+                r,
+                temp,
+                add_known(r.heat, product, own, heat),
+                volume,
+                r.each,
+                met,
+            );
+        }
+        return joined(
+            r,
+            temp,
+            heat_at(vol, r.bottom, i + 2, temp),
+            volume,
+            r.each,
+            met,
+        );
+    }
+    let differ = 0.0 / 0.0;
+    if temp == r.temp {
+        return joined(
+            r,
+            temp,
+            add_known(r.heat, product, own, heat),
+            volume,
+            differ,
+            met,
+        );
+    }
+    joined(
+        r,
+        temp,
+        heat_at(vol, r.bottom, i + 2, temp),
+        volume,
+        differ,
+        met,
+    )
+}
+
+// A group of the one layer i, of volume v.
+fn start_group(i: usize, temp: f64, v: f64, below: f64, sorted: bool, met: f64) -> RunningGroup
+    ensures { λ q. ⌜ Started i temp v below sorted met q ⌝ }
+{
+    let product = v * temp;
+    RunningGroup {
+        bottom: i,
+        temp,
+        heat: numeric::sum2::one_term(product),
+        volume: numeric::sum2::one_term(v * 1.0),
+        each: v,
+        below,
+        sorted,
+        met: met + product,
+    }
+}
+
+// The layers from bottom to below end take x; one layer alone has it already.
+fn end_group(bottom: usize, end: usize, x: f64, temps: &mut [f64; MAX_LAYERS])
+    requires { ⌜ (bottom < end) × (end ≤ maxLayers) ⌝ }
+    ensures { λ r. ⌜ Ended bottom end x (now (temps .entry)) (now (temps .exit)) ⌝ }
+{
+    if bottom + 1 < end {
+        crate::round::fill_group(bottom, end, x, temps);
+    }
+}
+
+// The pair of the layers i and i + 1: it joins the group, or it ends it.
+fn run_pair(
+    r: RunningGroup,
+    vol: &[f64; MAX_LAYERS],
+    i: usize,
+    temps: &mut [f64; MAX_LAYERS],
+) -> RunningGroup
+    requires { ⌜ (r .bottom ≤ i) × (i + 1 < maxLayers) ⌝ }
+    ensures { λ q. ⌜ (q .bottom ≤ i + 1) × ((n : ℕ) (first : List Float) → i + 1 < n → Follows n (now (vol .entry)) first i (now (temps .entry)) r → Follows n (now (vol .entry)) first (i + 1) (now (temps .exit)) q) ⌝ }
+{
+    let next = temps[i + 1];
+    let v = vol[i + 1];
+    if does_join_finite(r.temp, next) {
+        return join(r, vol, i, v, next);
+    }
+    end_group(r.bottom, i + 1, r.temp, temps);
+    let sorted = is_still_sorted(r.sorted, r.below, r.temp);
+    start_group(i + 1, next, v, r.temp, sorted, r.met)
+}
+
+// A round in place. Where a product met is not finite, what it leaves is of no use.
+pub fn try_round(n: usize, vol: &[f64; MAX_LAYERS], temps: &mut [f64; MAX_LAYERS]) -> RoundAnswer
+    requires { ⌜ (1 ≤ n) × (n ≤ maxLayers) ⌝ }
+    ensures { λ r. ⌜ (r .finite ≡ true → (now (temps .exit) ≡ oneRound n (now (vol .entry)) (now (temps .entry))) × (r .sorted ≡ isSorted n (now (temps .exit)))) ⌝ }
+{
+    let pairs = n - 1;
+    let mut r = start_group(0, temps[0], vol[0], -(1.0 / 0.0), true, 0.0);
+    let mut i = 0;
+    while i < pairs {
+        r = run_pair(r, vol, i, temps);
+        i += 1;
+    }
+    end_group(r.bottom, n, r.temp, temps);
+    RoundAnswer {
+        finite: numeric::compare::is_finite(r.met),
+        sorted: is_still_sorted(r.sorted, r.below, r.temp),
+    }
+}

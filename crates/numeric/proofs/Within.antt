@@ -1,0 +1,122 @@
+-- Proves Close's distance of two finite numbers, the lower of them above zero (01, Arithmetic underneath): it is upper - lower, and the larger magnitude is upper.
+use mathlib.Core.Path.{_≡_, refl, sym, ap, _∙_, subst}
+use mathlib.Core.Logic.{⊎-elim}
+use mathlib.Core.Bool.{Bool, true, false, not, cond, _&&_, _||_, true≢false}
+use Prim.Native.Nat.{ℕ, zero, suc, _+_, _-_, _*_, _^_, _<_}
+use native.Mathlib.Nat.{mul-comm, mul-pos, zero-lt-suc, eq-or-lt-of-le}
+use native.Mathlib.Omega.{arith}
+use borrow.Author.Tests.{ltb-true, ltb-false, eqb-false, lt-ltb, le-ltb}
+use lib.Dec.{T, ltb, eqb}
+use lib.IntN.{ℤ}
+use lib.Ieee.{Float, nan, inf, fin, Format, binary64, prec, emax, low, up, down, odd, units, round, sum, add, sub, neg, lt, le, eq, fits, ofBits}
+use lib.Ieee.Fits.{up-pos, down-pos, neg-fits}
+use lib.Ieee.Scale.{finite}
+use Rattle.numeric.specs.Double.{_⊖_, _⊛_, zero-f, relative-tolerance}
+use Rattle.numeric.specs.Compare.{maxOf2}
+use Rattle.numeric.specs.Close.{magnitude, within}
+use Rattle.numeric.proofs.Zeros.{isMinusZero, add-not-minus}
+
+-- ---- a rounded fraction with the sign of minus: it is not above zero, and its opposite is the fraction with the sign of plus
+abbrev Minus : Float → Type 0
+Minus nan = ⊥
+Minus (inf s) = s ≡ true
+Minus (fin s m e) = s ≡ true
+
+minus-odd : (d q k l : ℕ) → Minus (odd d true q k l) × (neg (odd d true q k l) ≡ odd d false q k l)
+unfolding odd neg
+minus-odd d zero k l = (refl, refl)
+minus-odd d (suc q) k l = (refl, refl)
+
+minus-units : (f : Format) (q k : ℕ) → Minus (units f true q k) × (neg (units f true q k) ≡ units f false q k)
+unfolding units
+minus-units f q k = go (ltb (q * 2 ^ k) (2 ^ (low f + suc (emax f))))
+  where
+    go : (b : Bool) → Minus (cond b (odd (suc (prec f)) true q k (low f)) (inf true)) × (neg (cond b (odd (suc (prec f)) true q k (low f)) (inf true)) ≡ cond b (odd (suc (prec f)) false q k (low f)) (inf false))
+    go true = minus-odd (suc (prec f)) q k (low f)
+    go false = (refl, unfold neg in refl)
+
+minus-round : (f : Format) (a c : ℕ) → Minus (round f true a c) × (neg (round f true a c) ≡ round f false a c)
+unfolding round
+minus-round f a c = minus-units f _ _
+
+below-zero : (x : Float) → Minus x → T (not (isMinusZero x)) → lt x zero-f ≡ true
+unfolding lt ofBits
+below-zero nan h n = absurd h
+below-zero (inf s) h n = h
+below-zero (fin s zero e) h n = absurd (subst (λ (b : Bool). T (not b)) h n)
+below-zero (fin s (suc m) e) h n =
+    let p : 0 < suc m * up e = mul-pos (zero-lt-suc m) (up-pos e) in
+    rw h (lt-ltb 0 (suc m * up e * 1 + 0 * 1 * down e) (omega arith))
+
+plus-sign : (m : ℕ) (e : ℤ) → T (not (isMinusZero (fin false m e)))
+plus-sign zero e = tt
+plus-sign (suc m) e = tt
+
+plus-magnitude : (m : ℕ) (e : ℤ) → magnitude (fin false m e) ≡ fin false m e
+unfolding magnitude lt ofBits
+plus-magnitude m e = rw (le-ltb (m * up e * 1) (0 * 1 * down e) (omega arith)) refl
+
+or-swap : (a b : Bool) → (a || b) ≡ (b || a)
+or-swap true true = refl
+or-swap true false = refl
+or-swap false true = refl
+or-swap false false = refl
+
+-- ---- two numbers with the sign of plus, the lower first
+module _ (m : ℕ) (e : ℤ) (n : ℕ) (g : ℤ) (h : m * up e * down g < n * up g * down e) where
+  abbrev difference : ℕ
+  difference = n * up g * down e - m * up e * down g
+
+  down-difference : fin false m e ⊖ fin false n g ≡ round binary64 true difference (down e * down g)
+  unfolding sub add neg sum
+  down-difference = rw (lt-ltb (m * up e * down g) (n * up g * down e) h) refl
+
+  up-difference : fin false n g ⊖ fin false m e ≡ round binary64 false difference (down e * down g)
+  unfolding sub add neg sum
+  up-difference = rw (le-ltb (n * up g * down e) (m * up e * down g) (omega arith), mul-comm (down g) (down e)) refl
+
+  distance : T (fits binary64 (fin false m e)) → T (fits binary64 (fin false n g)) → magnitude (fin false m e ⊖ fin false n g) ≡ fin false n g ⊖ fin false m e
+  unfolding magnitude
+  distance p q =
+      let minus = minus-round binary64 difference (down e * down g) in
+      let some : T (not (isMinusZero (fin false m e ⊖ fin false n g))) = unfold sub in add-not-minus binary64 (fin false m e) (neg (fin false n g)) p (neg-fits binary64 (fin false n g) q) (plus-sign m e) in
+      rw (below-zero (fin false m e ⊖ fin false n g) (rw down-difference (minus .0)) some) (ap neg down-difference ∙ minus .1 ∙ sym up-difference)
+
+  not-above : lt (fin false n g) (fin false m e) ≡ false
+  unfolding lt
+  not-above = le-ltb (n * up g * down e) (m * up e * down g) (omega arith)
+
+  within-plus : (t : Float) → T (fits binary64 (fin false m e)) → T (fits binary64 (fin false n g)) → within (fin false m e) (fin false n g) t ≡ (le (fin false n g ⊖ fin false m e) (relative-tolerance ⊛ fin false n g) || le (fin false n g ⊖ fin false m e) t)
+  unfolding within maxOf2
+  within-plus t p q = rw (distance p q, plus-magnitude m e, plus-magnitude n g, not-above) (or-swap (le (fin false n g ⊖ fin false m e) t) (le (fin false n g ⊖ fin false m e) (relative-tolerance ⊛ fin false n g)))
+
+-- ---- the law
+or-false : (a b : Bool) → (a || b) ≡ false → (a ≡ false) × (b ≡ false)
+or-false true b h = absurd (true≢false h)
+or-false false b h = (refl, h)
+
+and-first : (a : Bool) → (a && true) ≡ false → a ≡ false
+and-first true h = h
+and-first false h = h
+
+strictly : (a b : ℕ) → (ltb b a || (eqb b a && true)) ≡ false → a < b
+strictly a b h =
+    let both = or-false (ltb b a) (eqb b a && true) h in
+    ⊎-elim (λ e. absurd (eqb-false b a (and-first (eqb b a) (both .1)) (sym e))) (λ l. l) (eq-or-lt-of-le (ltb-false b a (both .0)))
+
+above : (m : ℕ) (e : ℤ) → ltb (0 * 1 * down e) (m * up e * 1) ≡ true → 0 < m * up e
+above m e z = let l = ltb-true (0 * 1 * down e) (m * up e * 1) z in omega arith
+
+pub within-above : (lower upper t : Float) → T (fits binary64 lower) → T (fits binary64 upper) → T (finite lower) → T (finite upper) → lt zero-f lower ≡ true → le upper lower ≡ false → within lower upper t ≡ (le (upper ⊖ lower) (relative-tolerance ⊛ upper) || le (upper ⊖ lower) t)
+unfolding lt le eq ofBits
+within-above nan upper t p q f g z h = absurd f
+within-above (inf s) upper t p q f g z h = absurd f
+within-above (fin s m e) nan t p q f g z h = absurd g
+within-above (fin s m e) (inf u) t p q f g z h = absurd g
+within-above (fin true m e) (fin u n k) t p q f g z h = absurd (true≢false (sym z))
+within-above (fin false m e) (fin true n k) t p q f g z h =
+    let a = ltb-false 0 (n * up k * down e + m * up e * down k) (or-false (ltb 0 (n * up k * down e + m * up e * down k)) _ h .0) in
+    let b : 0 < m * up e = above m e z in
+    let c : 0 < m * up e * down k = mul-pos b (down-pos k) in
+    absurd (omega arith)
+within-above (fin false m e) (fin false n k) t p q f g z h = within-plus m e n k (strictly (m * up e * down k) (n * up k * down e) h) t p q
