@@ -7,7 +7,7 @@ use native.Mathlib.Omega.{arith}
 use native.Mathlib.Nat.{add-zero}
 use native.Mathlib.Numerals.{add-one}
 use borrow.Author.Tests.{eq-eqb, ne-eqb}
-use lib.ListN.{length, getD, set, drop, take, replicate, length-drop, length-replicate, length-take, drop-of-length-le}
+use lib.ListN.{length, getD, set, drop, length-drop, length-replicate}
 use lib.Seq.{getD-drop, drop-drop, slice, slice-cons}
 use lib.Ieee.{Float}
 use Rattle.numeric.specs.Copy.{copied, copied-turn}
@@ -16,6 +16,7 @@ use Rattle.heating.specs.Turn.{turnNumber}
 use Rattle.working_order.specs.Order.{maxHeaters}
 use Rattle.storage_tank.specs.declared.Heater.{Heater}
 use Rattle.storage_tank.specs.declared.Setting.{Setting}
+use Rattle.storage_tank.proofs.TurnLoop.{slice-past}
 use Rattle.job_history.specs.declared.TurnFact.{TurnFact}
 use Rattle.job_history.specs.declared.Turns.{Turns}
 use Rattle.job_history.specs.declared.facts.ToldTurn.{ToldTurn}
@@ -87,10 +88,6 @@ module _ (c : Cylinder) (fitted : List Heater) (settings : List Setting) (h : �
   facts-off z = rw (ne-eqb (turnNumber c (turnAt c fitted settings h temps charged flags)) 0 (λ e. z (sym number-is ∙ e)), w .answers)
 
 -- ---- the loop over the first n places of `order`, which has come to k
-
--- past its end a slice is empty
-slice-past : (k n : ℕ) (xs : List ℕ) → n ≤ k → slice k n xs ≡ []
-slice-past k n xs l = let m : length (take n xs) ≤ k = simp length-take (omega arith) in drop-of-length-le (take n xs) m
 
 module _ (c : Cylinder) (fitted : List Heater) (settings : List Setting) (all : List TurnFact) (n : ℕ) (order : List ℕ) (k : ℕ) (temps charged : List Float) (flags : List Bool) (q : Turns)
     (before : Telling all (turnFacts c fitted settings (slice k n order) temps charged flags) q k) where

@@ -39,7 +39,7 @@ resume-off es us zero s f e = absurd (e refl)
 resume-off es us (suc n) s f e = refl
 
 -- past its end a slice is empty
-slice-past : (k n : ℕ) (xs : List ℕ) → n ≤ k → slice k n xs ≡ []
+pub slice-past : (k n : ℕ) (xs : List ℕ) → n ≤ k → slice k n xs ≡ []
 slice-past k n xs l = let m : length (take n xs) ≤ k = simp length-take (omega arith) in drop-of-length-le (take n xs) m
 
 module _ (c : Cylinder) (n : ℕ) (fitted : List Heater) (settings : List Setting) where
