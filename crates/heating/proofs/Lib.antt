@@ -2,3 +2,4 @@
 pub mod Layer
 pub mod Mixed
 pub mod Keeps
+pub mod Offers

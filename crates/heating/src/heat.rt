@@ -1,6 +1,6 @@
 // What a heater offers its layer, and the layers once they have it. `energy` is rated power × step length.
 ghost use mathlib.Core.Path.{_≡_};
-ghost use Prim.Native.Nat.{_≤_};
+ghost use Prim.Native.Nat.{_≤_, _<_};
 ghost use Rattle.numeric.specs.Sum2.{sum2};
 ghost use Rattle.numeric.specs.Tabulate.{tabulate};
 ghost use Rattle.mixing.specs.Limits.{maxLayers};
@@ -21,18 +21,13 @@ pub fn potential_energy_input(on: bool, energy: f64, layer: usize, k: usize) -> 
     0.0
 }
 
-// Sum2 of the offers to all n layers.
+// Sum2 of the offers to all n layers. All but the heater's own are zeros, which add nothing.
 pub fn energy_input(n: usize, on: bool, energy: f64, layer: usize) -> f64
-    requires { ⌜ n ≤ maxLayers ⌝ }
+    requires { ⌜ layer < n ⌝ }
     ensures { λ r. ⌜ r ≡ sum2 (tabulate (offer on energy layer) n 0) ⌝ }
 {
-    let mut a = numeric::sum2::start();
-    let mut k = 0;
-    while k < n {
-        a = numeric::sum2::add_term(a, potential_energy_input(on, energy, layer, k));
-        k += 1;
-    }
-    numeric::sum2::total_of(a)
+    let q = potential_energy_input(on, energy, layer, layer);
+    numeric::sum2::total_of(numeric::sum2::add_term(numeric::sum2::start(), q))
 }
 
 // Each layer gains offer / (density × specific heat × layer volume); the Rust adds the heat drawn by other means, a zero.
