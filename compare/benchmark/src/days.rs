@@ -97,7 +97,9 @@ fn many_draws() -> Vec<Vec<f64>> {
 fn most_rounds(name: &str, mixings: bool) -> Day {
     let mut day = day(name, 32, 1, FEED, vec![Vec::new(); if mixings { 8 } else { 1 }]);
     day.set_points = (None, None);
-    day.start.layers = (0..32).map(|at| if at == 31 { -1e6 } else { at as f64 }).collect();
+    day.start.layers = (0..32)
+        .map(|at| if at == 31 { -1e6 } else { at as f64 })
+        .collect();
     day.mixings = mixings;
     day
 }

@@ -21,7 +21,15 @@ pub fn write_job(day: &Day) {
     let mut job = Vec::new();
     let m = &day.making;
     let mut body = (m.layers as u16).to_le_bytes().to_vec();
-    let numbers = [m.volume, m.standby, m.initial, m.density, m.specific_heat, m.ambient, m.step];
+    let numbers = [
+        m.volume,
+        m.standby,
+        m.initial,
+        m.density,
+        m.specific_heat,
+        m.ambient,
+        m.step,
+    ];
     doubles(&mut body, &numbers);
     record(&mut job, 1, &body);
     for heater in &day.heaters {
@@ -73,7 +81,11 @@ pub fn write_lines(day: &Day) {
     for (index, volumes) in day.draws.iter().enumerate() {
         let step = ours::step_of(day.feed, volumes, day.heaters.len(), day.set_points);
         let number = ours::step(&mut tank, &mut report, &step);
-        let totals = if number == 0 { hex(&report.totals) } else { String::new() };
+        let totals = if number == 0 {
+            hex(&report.totals)
+        } else {
+            String::new()
+        };
         println!("S {index} {number}{totals}");
         println!("L{}", hex(&tank.temps[..day.making.layers]));
         for at in 0..day.heaters.len() {

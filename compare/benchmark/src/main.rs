@@ -12,6 +12,7 @@ use std::time::Instant;
 const USAGE: &str = "\
 benchmark names                    the days, each with its steps
 benchmark time DAY                 nanoseconds a step: the Rust's, the Rust's with its detailed output, ours
+benchmark time DAY wrong           the same with one bit of our answer turned, which must be noticed
 benchmark count SIDE DAY N         N days of one side (rust, detailed, ours), to be counted in the functions *_day and *_mixings
 benchmark job DAY                  the day as a job with put records
 benchmark lines DAY                our answers as the job's lines
@@ -135,7 +136,10 @@ impl Ours {
             our_day(&mut self.tank, &mut self.reports, &self.steps)
         };
         if number != 0 {
-            stop(&format!("benchmark: day {}: a step or mixing is refused", day.name));
+            stop(&format!(
+                "benchmark: day {}: a step or mixing is refused",
+                day.name
+            ));
         }
     }
 }
@@ -147,7 +151,13 @@ fn compare_state(day: &Day, step: usize, rust: &Rust, ours: &Ours) {
     }
     for (at, flag) in state.flags.iter().enumerate() {
         let number = |flag: bool| f64::from(u8::from(flag));
-        differ(day, step, &format!("flag {at}"), number(*flag), number(ours.tank.flags[at]));
+        differ(
+            day,
+            step,
+            &format!("flag {at}"),
+            number(*flag),
+            number(ours.tank.flags[at]),
+        );
     }
     let (average, recoverable) = rust.tank.average_and_recoverable();
     let totals = &ours.reports[step].totals;
@@ -166,7 +176,13 @@ fn compare_day(day: &Day, rust: &Rust, ours: &Ours) {
         return;
     }
     for (step, energy) in rust.energies.iter().enumerate() {
-        differ(day, step, "energy withdrawn", *energy, ours.reports[step].totals[0]);
+        differ(
+            day,
+            step,
+            "energy withdrawn",
+            *energy,
+            ours.reports[step].totals[0],
+        );
     }
     compare_state(day, day.draws.len() - 1, rust, ours);
 }
@@ -179,7 +195,13 @@ fn compare_steps(day: &Day, rust: &mut Rust, ours: &mut Ours) {
         let energy = rust.tank.demand_hot_water(events);
         let number = ours::step(&mut ours.tank, &mut ours.reports[step], &ours.steps[step]);
         differ(day, step, "the refusal", 0.0, f64::from(number));
-        differ(day, step, "energy withdrawn", energy, ours.reports[step].totals[0]);
+        differ(
+            day,
+            step,
+            "energy withdrawn",
+            energy,
+            ours.reports[step].totals[0],
+        );
         compare_state(day, step, rust, ours);
     }
 }
@@ -208,7 +230,7 @@ fn our_days(day: &Day, ours: &mut Ours, days: usize) -> f64 {
 }
 
 /// The least time a step of many stretches, the sides in turn. A stretch is so many days that it lasts a few milliseconds.
-fn time(day: &Day) {
+fn time(day: &Day, wrong: bool) {
     const STRETCHES: usize = 60;
     const STRETCH: f64 = 4e6;
     let (mut rust, mut detailed, mut ours) = (Rust::new(day, false), Rust::new(day, true), Ours::new(day));
@@ -224,6 +246,10 @@ fn time(day: &Day) {
             rust_days(day, &mut detailed, days),
             our_days(day, &mut ours, days),
         ];
+        if wrong {
+            let top = &mut ours.tank.temps[day.making.layers - 1];
+            *top = f64::from_bits(top.to_bits() ^ 1);
+        }
         compare_day(day, &rust, &ours);
         compare_day(day, &detailed, &ours);
         for side in 0..3 {
@@ -262,7 +288,8 @@ fn main() {
                 println!("{} {}", day.name, day.draws.len());
             }
         }
-        ["time", name] => time(find(name)),
+        ["time", name] => time(find(name), false),
+        ["time", name, "wrong"] => time(find(name), true),
         ["count", side @ ("rust" | "detailed" | "ours"), name, days] => {
             let days = days
                 .parse()
