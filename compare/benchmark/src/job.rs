@@ -16,8 +16,13 @@ fn doubles(body: &mut Vec<u8>, numbers: &[f64]) {
     }
 }
 
-/// Document 01, Job, with one put record (kind 256) before the first step.
+/// Document 01, Job, with one put record (kind 256) before the first step; of mixings, the words for `judge mix`.
 pub fn write_job(day: &Day) {
+    if day.mixings {
+        let layers: String = day.start.layers.iter().map(|layer| format!(" {layer}")).collect();
+        println!("{}{layers}", day.layer_volume());
+        return;
+    }
     let mut job = Vec::new();
     let m = &day.making;
     let mut body = (m.layers as u16).to_le_bytes().to_vec();

@@ -11,10 +11,10 @@ use std::time::Instant;
 
 const USAGE: &str = "\
 benchmark names                    the days, each with its steps
-benchmark time DAY                 nanoseconds a step: the Rust's, the Rust's with its detailed output, ours
+benchmark time DAY                 nanoseconds a step: the Rust's, ours
 benchmark time DAY wrong           the same with one bit of our answer turned, which must be noticed
-benchmark count SIDE DAY N         N days of one side (rust, detailed, ours), to be counted in the functions *_day and *_mixings
-benchmark job DAY                  the day as a job with put records
+benchmark count rust|ours DAY N    N days of one side, to be counted in the functions *_day and *_mixings
+benchmark job DAY                  the day as a job with a put record, or as words for `judge mix`
 benchmark lines DAY                our answers as the job's lines
 ";
 
@@ -88,9 +88,9 @@ fn our_mixings(layer_volume: f64, mixed: &mut [Vec<f64>]) -> u8 {
 }
 
 impl Rust {
-    fn new(day: &Day, output: bool) -> Rust {
+    fn new(day: &Day) -> Rust {
         Rust {
-            tank: Timed::new(&day.making, &day.heaters, day.feed, day.set_points, output),
+            tank: Timed::new(&day.making, &day.heaters, day.feed, day.set_points),
             events: Vec::new(),
             energies: vec![0.0; day.draws.len()],
             mixed: vec![Vec::new(); day.draws.len()],
@@ -233,34 +233,29 @@ fn our_days(day: &Day, ours: &mut Ours, days: usize) -> f64 {
 fn time(day: &Day, wrong: bool) {
     const STRETCHES: usize = 60;
     const STRETCH: f64 = 4e6;
-    let (mut rust, mut detailed, mut ours) = (Rust::new(day, false), Rust::new(day, true), Ours::new(day));
+    let (mut rust, mut ours) = (Rust::new(day), Ours::new(day));
     if !day.mixings {
         compare_steps(day, &mut rust, &mut ours);
     }
     let days = (STRETCH / rust_days(day, &mut rust, 1)).ceil() as usize;
     let steps = (days * day.draws.len()) as f64;
-    let mut least = [f64::INFINITY; 3];
+    let mut least = [f64::INFINITY; 2];
     for _ in 0..STRETCHES {
-        let took = [
-            rust_days(day, &mut rust, days),
-            rust_days(day, &mut detailed, days),
-            our_days(day, &mut ours, days),
-        ];
+        let took = [rust_days(day, &mut rust, days), our_days(day, &mut ours, days)];
         if wrong {
             let top = &mut ours.tank.temps[day.making.layers - 1];
             *top = f64::from_bits(top.to_bits() ^ 1);
         }
         compare_day(day, &rust, &ours);
-        compare_day(day, &detailed, &ours);
-        for side in 0..3 {
+        for side in 0..2 {
             least[side] = f64::min(least[side], took[side] / steps);
         }
     }
-    println!("{} {} {}", least[0], least[1], least[2]);
+    println!("{} {}", least[0], least[1]);
 }
 
 fn count(side: &str, day: &Day, days: usize) {
-    let mut rust = Rust::new(day, side == "detailed");
+    let mut rust = Rust::new(day);
     let mut ours = Ours::new(day);
     for _ in 0..days {
         if side == "ours" {
@@ -290,7 +285,7 @@ fn main() {
         }
         ["time", name] => time(find(name), false),
         ["time", name, "wrong"] => time(find(name), true),
-        ["count", side @ ("rust" | "detailed" | "ours"), name, days] => {
+        ["count", side @ ("rust" | "ours"), name, days] => {
             let days = days
                 .parse()
                 .unwrap_or_else(|_| stop(&format!("benchmark: {days} is no number")));

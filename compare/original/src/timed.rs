@@ -1,5 +1,5 @@
 // `demand_hot_water` and nothing else, for timing: what it is called with is made beforehand, and what it leaves is
-// read afterwards.
+// read afterwards. The detailed output is off: document 01 leaves it out.
 
 use super::probe::{Heater, Making, SetPoints, State, Tank};
 use super::*;
@@ -22,10 +22,9 @@ pub fn events(volumes: &[f64]) -> Events {
 }
 
 impl Timed {
-    /// A tank that is given this feed and these set points in every step. With `output` it writes its detailed
-    /// output, as the judge has it do.
-    pub fn new(making: &Making, heaters: &[Heater], feed: f64, set_points: SetPoints, output: bool) -> Timed {
-        let tank = Tank::with_output(making, heaters, output)
+    /// A tank that is given this feed and these set points in every step.
+    pub fn new(making: &Making, heaters: &[Heater], feed: f64, set_points: SetPoints) -> Timed {
+        let tank = Tank::with_output(making, heaters, false)
             .unwrap_or_else(|failed| panic!("no tank is made: {failed:?}"));
         tank.feed.feed.store(feed, Ordering::SeqCst);
         for control in &tank.controls {
@@ -34,11 +33,7 @@ impl Timed {
         Timed(tank)
     }
 
-    /// Puts layers and flags in, and throws the detailed output away.
     pub fn put(&self, state: &State) {
-        if let Some(details) = &self.0.tank.detailed_results {
-            details.write().clear();
-        }
         self.0.put(state)
     }
 
