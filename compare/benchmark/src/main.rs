@@ -45,8 +45,11 @@ struct Rust {
 
 struct Ours {
     tank: ours::Tank,
+    report: ours::Report,
+    /// Those that differ; `asked` has the place of each step's.
     steps: Vec<ours::Step>,
-    reports: Vec<ours::Report>,
+    asked: Vec<usize>,
+    energies: Vec<f64>,
     mixed: Vec<Vec<f64>>,
 }
 
@@ -61,10 +64,17 @@ fn rust_day(tank: &Timed, events: &mut Vec<Events>, energies: &mut [f64]) {
 
 #[no_mangle]
 #[inline(never)]
-fn our_day(tank: &mut ours::Tank, reports: &mut [ours::Report], steps: &[ours::Step]) -> u8 {
+fn our_day(
+    tank: &mut ours::Tank,
+    report: &mut ours::Report,
+    steps: &[ours::Step],
+    asked: &[usize],
+    energies: &mut [f64],
+) -> u8 {
     let mut number = 0;
-    for (report, step) in reports.iter_mut().zip(steps) {
-        number |= ours::step(tank, report, step);
+    for (at, energy) in asked.iter().zip(energies) {
+        number |= ours::step(tank, report, &steps[*at]);
+        *energy = report.totals[0];
     }
     number
 }
@@ -114,11 +124,22 @@ impl Rust {
 
 impl Ours {
     fn new(day: &Day) -> Ours {
-        let step = |volumes: &Vec<f64>| ours::step_of(day.feed, volumes, day.heaters.len(), day.set_points);
+        let mut kinds: Vec<&Vec<f64>> = Vec::new();
+        let mut asked = Vec::new();
+        for volumes in &day.draws {
+            let known = kinds.iter().position(|kind| *kind == volumes);
+            asked.push(known.unwrap_or(kinds.len()));
+            if known.is_none() {
+                kinds.push(volumes);
+            }
+        }
+        let step = |volumes: &&Vec<f64>| ours::step_of(day.feed, volumes, day.heaters.len(), day.set_points);
         Ours {
             tank: ours::make(&day.making, &day.heaters),
-            steps: day.draws.iter().map(step).collect(),
-            reports: vec![ours::Report::default(); day.draws.len()],
+            report: ours::Report::default(),
+            steps: kinds.iter().map(step).collect(),
+            asked,
+            energies: vec![0.0; day.draws.len()],
             mixed: Vec::new(),
         }
     }
@@ -133,7 +154,13 @@ impl Ours {
         let number = if day.mixings {
             our_mixings(day.layer_volume(), &mut self.mixed)
         } else {
-            our_day(&mut self.tank, &mut self.reports, &self.steps)
+            our_day(
+                &mut self.tank,
+                &mut self.report,
+                &self.steps,
+                &self.asked,
+                &mut self.energies,
+            )
         };
         if number != 0 {
             stop(&format!(
@@ -160,7 +187,7 @@ fn compare_state(day: &Day, step: usize, rust: &Rust, ours: &Ours) {
         );
     }
     let (average, recoverable) = rust.tank.average_and_recoverable();
-    let totals = &ours.reports[step].totals;
+    let totals = &ours.report.totals;
     differ(day, step, "the average", average, totals[2]);
     differ(day, step, "recoverable", recoverable, totals[3]);
 }
@@ -176,13 +203,7 @@ fn compare_day(day: &Day, rust: &Rust, ours: &Ours) {
         return;
     }
     for (step, energy) in rust.energies.iter().enumerate() {
-        differ(
-            day,
-            step,
-            "energy withdrawn",
-            *energy,
-            ours.reports[step].totals[0],
-        );
+        differ(day, step, "energy withdrawn", *energy, ours.energies[step]);
     }
     compare_state(day, day.draws.len() - 1, rust, ours);
 }
@@ -193,15 +214,9 @@ fn compare_steps(day: &Day, rust: &mut Rust, ours: &mut Ours) {
     ours.prepare(day);
     for (step, events) in std::mem::take(&mut rust.events).into_iter().enumerate() {
         let energy = rust.tank.demand_hot_water(events);
-        let number = ours::step(&mut ours.tank, &mut ours.reports[step], &ours.steps[step]);
+        let number = ours::step(&mut ours.tank, &mut ours.report, &ours.steps[ours.asked[step]]);
         differ(day, step, "the refusal", 0.0, f64::from(number));
-        differ(
-            day,
-            step,
-            "energy withdrawn",
-            energy,
-            ours.reports[step].totals[0],
-        );
+        differ(day, step, "energy withdrawn", energy, ours.report.totals[0]);
         compare_state(day, step, rust, ours);
     }
 }
@@ -231,7 +246,7 @@ fn our_days(day: &Day, ours: &mut Ours, days: usize) -> f64 {
 
 /// The least time a step of many stretches, the sides in turn. A stretch is so many days that it lasts a few milliseconds.
 fn time(day: &Day, wrong: bool) {
-    const STRETCHES: usize = 60;
+    const STRETCHES: usize = 150;
     const STRETCH: f64 = 4e6;
     let (mut rust, mut ours) = (Rust::new(day), Ours::new(day));
     if !day.mixings {
