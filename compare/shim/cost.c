@@ -1,4 +1,4 @@
-/* What a step costs: its time by layers, heaters and events, and its stack. Prints the table of docs/COST.md. */
+/* What a step costs: its time by layers, heaters and events, and its stack. Prints the table of docs/PERFORMANCE.md. */
 #define _XOPEN_SOURCE 700
 #include "shim.h"
 #include <stdio.h>

@@ -44,6 +44,11 @@ pub mod core {
             pub mod probe {
                 include!("probe.rs");
             }
+
+            /// Likewise.
+            pub mod timed {
+                include!("timed.rs");
+            }
         }
 
         pub mod primary_pipework_losses_mixin {
@@ -390,4 +395,4 @@ impl From<u32> for StringOrNumber {
     }
 }
 
-pub use crate::core::heating_systems::storage_tank::probe;
+pub use crate::core::heating_systems::storage_tank::{probe, timed};

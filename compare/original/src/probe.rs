@@ -67,12 +67,12 @@ pub enum Failed {
 }
 
 pub struct Tank {
-    tank: StorageTank,
-    feed: Arc<ColdWaterSource>,
-    controls: Vec<CompositeRangeTimeControl>,
+    pub(super) tank: StorageTank,
+    pub(super) feed: Arc<ColdWaterSource>,
+    pub(super) controls: Vec<CompositeRangeTimeControl>,
     names: Vec<ArcStr>,
     order: Vec<usize>,
-    timestep: Timestep,
+    pub(super) timestep: Timestep,
 }
 
 thread_local! {
@@ -118,6 +118,11 @@ impl Tank {
     /// `StorageTank::new`, with the heaters in the given order. Specific heat is set to the double given,
     /// not by way of J/(kg.K).
     pub fn new(making: &Making, heaters: &[Heater]) -> Result<Tank, Failed> {
+        Tank::with_output(making, heaters, true)
+    }
+
+    /// The same, with the detailed output or without.
+    pub(super) fn with_output(making: &Making, heaters: &[Heater], output: bool) -> Result<Tank, Failed> {
         guarded(|| {
             let timestep = Timestep {
                 index: 1,
@@ -159,7 +164,7 @@ impl Tank {
                 sources,
                 Arc::new(|| unreachable!("no pipework and no solar system asks for it")),
                 Arc::new(ExternalConditions),
-                true,
+                output,
                 Some(making.layers),
                 None,
                 MaterialProperties::new(making.density, 0.0),

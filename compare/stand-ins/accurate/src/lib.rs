@@ -18,6 +18,7 @@ pub mod traits {
     }
 
     impl SumAccumulator<f64> for Sum2<f64> {
+        #[inline]
         fn zero() -> Self {
             Sum2 { s: 0.0, c: 0.0 }
         }
@@ -34,6 +35,7 @@ pub mod traits {
             Sum2 { s: x, c }
         }
 
+        #[inline]
         fn sum(self) -> f64 {
             let answer = self.s + self.c;
             recorder::summed(answer);

@@ -1,12 +1,14 @@
 //! Stand-in for `approx`: `relative_eq!` is Close as document 01 writes it.
 
 /// 01, Close(a, b, e), with the relative tolerance that the call names.
+#[inline]
 pub fn close(a: f64, b: f64, epsilon: Option<f64>, max_relative: f64) -> bool {
     let answer = judge(a, b, epsilon.unwrap_or(f64::EPSILON), max_relative);
     recorder::compared(a, epsilon.is_none(), answer);
     answer
 }
 
+#[inline]
 fn judge(a: f64, b: f64, e: f64, max_relative: f64) -> bool {
     if a == b {
         return true;

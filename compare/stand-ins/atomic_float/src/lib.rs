@@ -6,18 +6,22 @@ use std::sync::atomic::{AtomicU64, Ordering};
 pub struct AtomicF64(AtomicU64);
 
 impl AtomicF64 {
+    #[inline]
     pub fn new(value: f64) -> Self {
         AtomicF64(AtomicU64::new(value.to_bits()))
     }
 
+    #[inline]
     pub fn load(&self, order: Ordering) -> f64 {
         f64::from_bits(self.0.load(order))
     }
 
+    #[inline]
     pub fn store(&self, value: f64, order: Ordering) {
         self.0.store(value.to_bits(), order)
     }
 
+    #[inline]
     pub fn fetch_add(&self, value: f64, order: Ordering) -> f64 {
         let old = self
             .0
