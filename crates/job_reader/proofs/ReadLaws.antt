@@ -14,7 +14,7 @@ use Rattle.job_reader.specs.declared.Reading.{Reading}
 use Rattle.job_reader.specs.Bytes.{byteAt, u16At, u32At}
 use Rattle.job_reader.specs.Fields.{isPresenceAt}
 use Rattle.job_reader.specs.Records.{refusedAt, heaterRecordAt, stepReadingAt, tankAt, heaterAt, stepAt, byKind, isWhole, readRecord, entriesAt, stepSizeAt}
-use Rattle.job_reader.specs.Values.{valuesOf}
+use Rattle.job_reader.specs.Values.{valuesOf, valuesIn}
 use Rattle.job_reader.specs.WellFormed.{Stands, WellFormed, tank-record, heater-record, step-record}
 
 both : (a b : Bool) → (a && b) ≡ true → (a ≡ true) × (b ≡ true)
@@ -88,11 +88,21 @@ module _ (s : List ℕ) (at : ℕ) (tank : Bool) (heaters : ℕ) (step : Bool) w
       of-kind (leb-true _ _ (p .0)) (leb-true _ _ (q .1))) (λ b. inr refl)
 
   -- a well-formed record has the number 0
-  pub well-formed-number : (r : Reading) → WellFormed s at tank heaters step r → valuesOf (r .content) .number ≡ 0
+  pub well-formed-number : (r : Reading) → WellFormed s at tank heaters step r → valuesIn r .number ≡ 0
   unfolding valuesOf heaterRecordAt stepReadingAt
   well-formed-number r (tank-record h t n p) = refl
   well-formed-number r (heater-record h t n p b) = refl
   well-formed-number r (step-record h t n b) = refl
+
+  -- what an answer does not use is zero in it: it holds its values and nothing beside them
+  pub read-values : (readRecord s at tank heaters step .volumes ≡ valuesIn (readRecord s at tank heaters step) .volumes) × (readRecord s at tank heaters step .settings ≡ valuesIn (readRecord s at tank heaters step) .settings)
+  read-values = go (readRecord s at tank heaters step) read-either
+    where
+      go : (r : Reading) → Either r → (r .volumes ≡ valuesIn r .volumes) × (r .settings ≡ valuesIn r .settings)
+      go r (inl (tank-record h t n p)) = unfold valuesOf in (refl, refl)
+      go r (inl (heater-record h t n p b)) = unfold valuesOf heaterRecordAt in (refl, refl)
+      go r (inl (step-record h t n b)) = unfold valuesOf stepReadingAt in (refl, refl)
+      go r (inr e) = unfold valuesOf in (rw e (refl, refl))
 
   -- a record takes 16 bytes at least, and all of them are there
   pub well-formed-moves : (r : Reading) → WellFormed s at tank heaters step r → (at + 16 ≤ r .next) × (r .next ≤ length s)
