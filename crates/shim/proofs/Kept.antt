@@ -1,16 +1,21 @@
--- Proves that an exported step that is refused leaves every lent array as it was (01, The four calls), as far as the logic tells one not-a-number from another.
+-- Proves that an exported step that is refused leaves every lent array as it was (01, The four calls), as far as the logic tells one not-a-number from another,
+-- and that what an accepted one need not write holds its answer already.
 use Prim.Native.Nat.{ℕ, suc, _+_, _<_}
 use native.Mathlib.Omega.{arith}
 use mathlib.Core.Path.{_≡_, refl, sym, ap, _∙_, subst}
 use mathlib.Core.Bool.{Bool, false}
 use mathlib.Core.List.{List, [], _∷_}
+use lib.Arith.{lt-of-le-ne}
 use lib.ListN.{length, getD}
 use lib.Ieee.{Float, nan}
 use Rattle.numeric.specs.Tabulate.{tabulate}
 use Rattle.storage_tank.specs.declared.Step.{Step}
 use Rattle.storage_tank.specs.declared.StorageTank.{StorageTank}
 use Rattle.storage_tank.specs.declared.Report.{Report}
-use Rattle.storage_tank.specs.Calls.{stepped}
+use Rattle.storage_tank.specs.declared.Stepped.{Stepped}
+use Rattle.storage_tank.specs.Fixed.{fixedIn, stateIn}
+use Rattle.storage_tank.specs.Work.{End, refused, done, work}
+use Rattle.storage_tank.specs.Calls.{answer, stepped}
 use Rattle.storage_tank.proofs.Calls.{refused-step}
 use Rattle.shim.specs.Tanks.{fittedIn, tankIn, heatersOf, thermostatsOf, TankWritten}
 use Rattle.shim.specs.Reports.{linesIn, reportIn, figuresOf, lineFlagsOf, roundsOf, ReportWritten}
@@ -53,6 +58,16 @@ module _ (totals figures : List Float) (flags : List Bool) (rounds : List ℕ) (
     rounds-held = sym (places 0 8 rounds rounds-long);
   }
 
+-- ---- a step changes the layers and the flags alone
+
+stepped-held : (t : StorageTank) (r : Report) (a : Step) (counts : List ℕ) (numbers temps heaters : List Float) (thermostats flags : List Bool) → TankWritten t counts numbers temps heaters thermostats flags → TankWritten (stepped t r a .tank) counts numbers (stepped t r a .tank .temps) heaters thermostats (stepped t r a .tank .flags)
+unfolding stepped answer
+stepped-held t r a counts numbers temps heaters thermostats flags w = go (work (fixedIn t) (stateIn t) a .end)
+  where
+    go : (e : End) → TankWritten (answer t r e .tank) counts numbers (answer t r e .tank .temps) heaters thermostats (answer t r e .tank .flags)
+    go (refused n) = record { counts-held = w .counts-held; numbers-held = w .numbers-held; temps-held = refl; heaters-held = w .heaters-held; thermostats-held = w .thermostats-held; flags-held = refl }
+    go (done s) = record { counts-held = w .counts-held; numbers-held = w .numbers-held; temps-held = refl; heaters-held = w .heaters-held; thermostats-held = w .thermostats-held; flags-held = refl }
+
 -- ---- a refused step
 
 module _ (counts : List ℕ) (numbers temps heaters : List Float) (thermostats flags : List Bool) (counts-long : length counts ≡ 2) (numbers-long : length numbers ≡ 6) (heaters-long : length heaters ≡ 24) (thermostats-long : length thermostats ≡ 8) (totals figures : List Float) (lineFlags : List Bool) (rounds : List ℕ) (totals-long : length totals ≡ 4) (figures-long : length figures ≡ 24) (flags-long : length lineFlags ≡ 8) (rounds-long : length rounds ≡ 8) where
@@ -94,3 +109,23 @@ module _ (counts : List ℕ) (numbers temps heaters : List Float) (thermostats f
         line-flags-kept = r .flags-held ∙ sym (r₀ .flags-held);
         rounds-kept = r .rounds-held ∙ sym (r₀ .rounds-held);
       }
+
+  -- what the call leaves undone is done already: the arrays as lent hold the answer of a refused step
+  pub refused-answered : (a : Step) (number : ℕ) → number ≡ stepped lentTank lentReport a .number → (number ≡ 0 → ⊥) → StepAnswered (stepped lentTank lentReport a) number counts numbers temps heaters thermostats flags totals figures lineFlags rounds
+  refused-answered a number e n =
+      let same = refused-step lentTank lentReport a (subst (λ (k : ℕ). 0 < k) e (lt-of-le-ne (omega arith) (λ q. n (sym q)))) in
+      record {
+        number-is = e;
+        tank-held = subst (λ (x : StorageTank). TankWritten x counts numbers temps heaters thermostats flags) (sym (same .0)) (tank-held-as-lent counts numbers temps heaters thermostats flags counts-long numbers-long heaters-long thermostats-long);
+        report-held = subst (λ (x : Report). ReportWritten x totals figures lineFlags rounds) (sym (same .1)) (report-held-as-lent totals figures lineFlags rounds totals-long figures-long flags-long rounds-long);
+      }
+
+  -- and those that an accepted step does not write hold the rest of its tank
+  pub accepted-answered : (a : Step) (s : Stepped) (totals' figures' : List Float) (lineFlags' : List Bool) (rounds' : List ℕ) → s ≡ stepped lentTank lentReport a → s .number ≡ 0 → ReportWritten (s .report) totals' figures' lineFlags' rounds' → StepAnswered (stepped lentTank lentReport a) 0 counts numbers (s .tank .temps) heaters thermostats (s .tank .flags) totals' figures' lineFlags' rounds'
+  accepted-answered a s totals' figures' lineFlags' rounds' e z w =
+      subst (λ (q : Stepped). StepAnswered q 0 counts numbers (s .tank .temps) heaters thermostats (s .tank .flags) totals' figures' lineFlags' rounds') e
+      (record {
+        number-is = sym z;
+        tank-held = subst (λ (q : Stepped). TankWritten (q .tank) counts numbers (q .tank .temps) heaters thermostats (q .tank .flags)) (sym e) (stepped-held lentTank lentReport a counts numbers temps heaters thermostats flags (tank-held-as-lent counts numbers temps heaters thermostats flags counts-long numbers-long heaters-long thermostats-long));
+        report-held = w;
+      })

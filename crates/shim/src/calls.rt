@@ -120,7 +120,7 @@ pub extern "C" fn huszmago_make(
     a.number
 }
 
-// Steps the tank that the first six arrays hold, and writes the tank and the report of the answer in the arrays that hold them.
+// Steps the tank that the first six arrays hold. Accepted, the layers, the flags and the report are written: the rest of a tank stays. Refused, nothing is.
 #[no_mangle]
 pub extern "C" fn huszmago_step(
     counts: &mut [usize; 2],
@@ -158,9 +158,15 @@ pub extern "C" fn huszmago_step(
     let p = *present;
     let q = *points;
     let s = t.demand_hot_water(r, crate::steps::step_in(feed, e, v, p, q));
+    if s.number != 0 {
+        return s.number;
+    }
     let tank = s.tank;
-    put_tank(tank, counts, numbers, temps, heaters, thermostats, flags);
+    let after = tank.temps;
+    *temps = after;
+    let on = tank.flags;
+    *flags = on;
     let report = s.report;
     put_report(report, totals, figures, line_flags, rounds);
-    s.number
+    0
 }

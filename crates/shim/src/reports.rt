@@ -1,6 +1,7 @@
 // A report, from the arrays that hold it and back.
 ghost use mathlib.Core.Path.{_≡_};
 ghost use Prim.Native.Nat.{_<_};
+ghost use lib.ListN.{length};
 ghost use Rattle.working_order.specs.Order.{maxHeaters};
 ghost use Rattle.shim.specs.Reports.{lineIn, linesIn, reportIn, totalsOf, figuresOf, lineFlagsOf, roundsOf};
 use storage_tank::HeaterLine;
@@ -45,13 +46,14 @@ fn lines_in(
     ]
 }
 
+// The lengths are told too: an array that is lent has no fact of its own on them.
 pub fn report_in(
     totals: [f64; 4],
     figures: [f64; 24],
     flags: [bool; MAX_HEATERS],
     rounds: [usize; MAX_HEATERS],
 ) -> Report
-    ensures { λ r. ⌜ r ≡ reportIn totals figures flags rounds ⌝ }
+    ensures { λ r. ⌜ (r ≡ reportIn totals figures flags rounds) × (length totals ≡ 4) × (length figures ≡ 24) × (length flags ≡ 8) × (length rounds ≡ 8) ⌝ }
 {
     let lines = lines_in(figures, flags, rounds);
     Report {

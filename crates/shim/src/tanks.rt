@@ -1,6 +1,7 @@
 // A tank, from the arrays that hold it and back.
 ghost use mathlib.Core.Path.{_≡_};
 ghost use Prim.Native.Nat.{_<_};
+ghost use lib.ListN.{length};
 ghost use Rattle.working_order.specs.Order.{maxHeaters};
 ghost use Rattle.shim.specs.Tanks.{heaterIn, fittedIn, tankIn, designIn, countsOf, numbersOf, heatersOf, thermostatsOf};
 use mixing::limits::MAX_LAYERS;
@@ -37,6 +38,7 @@ fn fitted_in(xs: [f64; 24], bs: [bool; MAX_HEATERS]) -> [Heater; MAX_HEATERS]
     ]
 }
 
+// The lengths are told too: an array that is lent has no fact of its own on them.
 pub fn tank_in(
     counts: [usize; 2],
     numbers: [f64; 6],
@@ -45,7 +47,7 @@ pub fn tank_in(
     thermostats: [bool; MAX_HEATERS],
     flags: [bool; MAX_HEATERS],
 ) -> StorageTank
-    ensures { λ r. ⌜ r ≡ tankIn counts numbers temps heaters thermostats flags ⌝ }
+    ensures { λ r. ⌜ (r ≡ tankIn counts numbers temps heaters thermostats flags) × (length counts ≡ 2) × (length numbers ≡ 6) × (length heaters ≡ 24) × (length thermostats ≡ 8) ⌝ }
 {
     let fitted = fitted_in(heaters, thermostats);
     StorageTank {

@@ -1,4 +1,7 @@
--- `calls::huszmago_step` meets its contract (01, The four calls): the tank and the report that the step answers are written.
+-- `calls::huszmago_step` meets its contract (01, The four calls): a refused step writes nothing, an accepted one what it changes, and the arrays hold its answer.
+use mathlib.Core.Path.{ap}
+use Rattle.storage_tank.specs.declared.Stepped.{Stepped}
+use Rattle.shim.proofs.Kept.{refused-answered, accepted-answered}
 use borrow.Author.Needs.{needs}
 use Rattle.shim.proofs.calls.huszmago_step.Statement.{statement}
 use Rattle.shim.proofs.calls.huszmago_step.Tie as tie
@@ -15,21 +18,20 @@ step-in-requires c κs = search needs
 demand-hot-water-requires : tie.Need-demand-hot-water-requires
 demand-hot-water-requires c κs = search needs
 
-put-tank-requires : tie.Need-put-tank-requires
-put-tank-requires c κs = search needs
+returns : tie.Need-returns
+returns c =
+    let a = c .before .before .before .before .before .before .before .before .before .before .before .before .before .before .before .before .before .before .before .before .args in
+    let s = rw (c .before .before .before .before .before .before .before .before .before .before .before .before .before .tank-in .ensures .0, c .before .before .before .before .before .before .before .before .report-in .ensures .0, c .before .before .before .step-in .ensures) at (c .before .before .demand-hot-water .ensures) in
+    refused-answered (a .counts .now) (a .numbers .now) (a .temps .now) (a .heaters .now) (a .thermostats .now) (a .flags .now) (c .before .before .before .before .before .before .before .before .before .before .before .before .before .tank-in .ensures .1) (c .before .before .before .before .before .before .before .before .before .before .before .before .before .tank-in .ensures .2) (c .before .before .before .before .before .before .before .before .before .before .before .before .before .tank-in .ensures .3) (c .before .before .before .before .before .before .before .before .before .before .before .before .before .tank-in .ensures .4) (a .totals .now) (a .figures .now) (a .line-flags .now) (a .rounds .now) (c .before .before .before .before .before .before .before .before .report-in .ensures .1) (c .before .before .before .before .before .before .before .before .report-in .ensures .2) (c .before .before .before .before .before .before .before .before .report-in .ensures .3) (c .before .before .before .before .before .before .before .before .report-in .ensures .4) _ _ (ap (λ (x : Stepped). x .number) s) (c .if1 .taken)
 
 put-report-requires : tie.Need-put-report-requires
 put-report-requires c κs = search needs
 
-returns : tie.Need-returns
-returns c =
-    let written = c .before .before .before .before .before .before in
-    let ran = written .before .before .before .before .before .before .before .before in
-    let asked = ran .before in
-    let reported = asked .before .before .before .before .before in
-    let held = reported .before .before .before .before .before in
-    let s = rw (held .tank-in .ensures, reported .report-in .ensures, asked .step-in .ensures) at (ran .demand-hot-water .ensures) in
-    record { number-is = rw s; tank-held = rw (← s) (written .put-tank .ensures); report-held = rw (← s) (c .put-report .ensures) }
+returns-2 : tie.Need-returns-2
+returns-2 c =
+    let a = c .before .before .before .before .before .before .before .before .before .before .before .before .before .before .before .before .before .before .before .before .before .before .before .before .before .before .before .before .before .args in
+    let s = rw (c .before .before .before .before .before .before .before .before .before .before .before .before .before .before .before .before .before .before .before .before .before .before .tank-in .ensures .0, c .before .before .before .before .before .before .before .before .before .before .before .before .before .before .before .before .before .report-in .ensures .0, c .before .before .before .before .before .before .before .before .before .before .before .before .step-in .ensures) at (c .before .before .before .before .before .before .before .before .before .before .before .demand-hot-water .ensures) in
+    accepted-answered (a .counts .now) (a .numbers .now) (a .temps .now) (a .heaters .now) (a .thermostats .now) (a .flags .now) (c .before .before .before .before .before .before .before .before .before .before .before .before .before .before .before .before .before .before .before .before .before .before .tank-in .ensures .1) (c .before .before .before .before .before .before .before .before .before .before .before .before .before .before .before .before .before .before .before .before .before .before .tank-in .ensures .2) (c .before .before .before .before .before .before .before .before .before .before .before .before .before .before .before .before .before .before .before .before .before .before .tank-in .ensures .3) (c .before .before .before .before .before .before .before .before .before .before .before .before .before .before .before .before .before .before .before .before .before .before .tank-in .ensures .4) (a .totals .now) (a .figures .now) (a .line-flags .now) (a .rounds .now) (c .before .before .before .before .before .before .before .before .before .before .before .before .before .before .before .before .before .report-in .ensures .1) (c .before .before .before .before .before .before .before .before .before .before .before .before .before .before .before .before .before .report-in .ensures .2) (c .before .before .before .before .before .before .before .before .before .before .before .before .before .before .before .before .before .report-in .ensures .3) (c .before .before .before .before .before .before .before .before .before .before .before .before .before .before .before .before .before .report-in .ensures .4) _ (c .before .before .before .before .before .before .before .before .before .before .before .demand-hot-water .result) _ _ _ _ s (c .before .before .before .before .before .before .before .before .before .if1 .left) (c .put-report .ensures)
 
 pub huszmago-step-spec : {M : Type 1} → statement M
 huszmago-step-spec =
@@ -39,6 +41,6 @@ huszmago-step-spec =
     report-in-requires
     step-in-requires
     demand-hot-water-requires
-    put-tank-requires
+    returns
     put-report-requires
-    returns)
+    returns-2)

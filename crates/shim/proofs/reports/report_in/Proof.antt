@@ -21,7 +21,7 @@ array-read-t18 c = search needs
 
 returns : tie.Need-returns
 unfolding reportIn
-returns c = rw (c .lines-in .ensures)
+returns c = (rw (c .lines-in .ensures), search needs, search needs, search needs, search needs)
 
 pub report-in-spec : {M : Type 1} → statement M
 report-in-spec =

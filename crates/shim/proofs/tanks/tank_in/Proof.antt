@@ -33,7 +33,7 @@ array-read-t33 c = search needs
 
 returns : tie.Need-returns
 unfolding tankIn
-returns c = rw (c .fitted-in .ensures)
+returns c = (rw (c .fitted-in .ensures), search needs, search needs, search needs, search needs)
 
 pub tank-in-spec : {M : Type 1} → statement M
 tank-in-spec =
