@@ -8,11 +8,10 @@ use borrow.Author.Tests.{ne-eqb}
 use lib.Dec.{T, eqb}
 use lib.Ieee.{Float, binary64, fits, ofBits}
 use lib.Ieee.Fits.{add-fits}
-use Rattle.numeric.specs.declared.sum2.Accumulator.{Accumulator}
 use Rattle.numeric.specs.Double.{_⊕_, zero-f}
 use Rattle.numeric.specs.Turns.{turns}
 use Rattle.numeric.specs.Tabulate.{tabulate}
-use Rattle.numeric.specs.Sum2.{nothing-added, accumulate, total, sum2, sumTurn, sum2-turns}
+use Rattle.numeric.specs.Sum2.{nothing-added, accumulate, total, sum2, sum2-turns}
 use Rattle.numeric.specs.Zeros.{IsZero}
 use Rattle.numeric.proofs.Members.{sum-members}
 use Rattle.heating.specs.Heat.{offer}

@@ -1,7 +1,7 @@
 -- Proves that what is told of a made tank's steps are the turns of the history that demand 3 speaks of (01, Turn; demand 3).
 use mathlib.Core.Path.{_≡_, refl, ap, _∙_}
 use mathlib.Core.List.{List, [], _∷_}
-use Prim.Native.Nat.{ℕ, zero, suc, _≤_}
+use Prim.Native.Nat.{_≤_}
 use Rattle.working_order.specs.Order.{maxHeaters}
 use Rattle.storage_tank.specs.declared.StorageTank.{StorageTank}
 use Rattle.storage_tank.specs.declared.TankDesign.{TankDesign}
@@ -14,8 +14,7 @@ use Rattle.storage_tank.specs.History.{designRefusal, start, carry, workOf, run
 use Rattle.storage_tank.specs.Demand.{tankOf}
 use Rattle.storage_tank.proofs.Works.{made-heaters}
 use Rattle.storage_tank.proofs.Demand.{fixed-is}
-use Rattle.job_history.specs.declared.TurnFact.{TurnFact}
-use Rattle.job_history.specs.Facts.{factsOf, stepTurns, toldFrom, workFacts, calls}
+use Rattle.job_history.specs.Facts.{stepTurns, toldFrom, workFacts, calls}
 
 module _ (m : TankDesign) (fits : m .heaters ≤ maxHeaters) where
   -- a tank that holds make's numbers and the state st works steps the history does from st

@@ -8,7 +8,7 @@ use Rattle.job_reader.specs.declared.Record.{Record}
 use Rattle.job_reader.specs.declared.Record.the-variants.{Tank, Heater as HeaterCase, Step as StepCase, Refused}
 use Rattle.job_reader.specs.declared.Reading.{Reading}
 use Rattle.job_run.specs.declared.Job.{Job}
-use Rattle.job_run.specs.Job.{Turn, readingOf, stepTurn, turnOf, turn}
+use Rattle.job_run.specs.Job.{readingOf, stepTurn, turnOf, turn}
 use Rattle.job_run.proofs.Moves.{Moves, turn-moves}
 use Rattle.job_run.proofs.Ends.{run-ends}
 use Rattle.job_history.specs.History.{historyStep, historyOf, historyTurn, historyRun}

@@ -4,7 +4,7 @@ use mathlib.Core.List.{List, _∷_, append-nil}
 use Prim.Native.Nat.{ℕ, zero, suc, _+_, _<_, _≤_}
 use native.Mathlib.Nat.{le-of-suc-le-suc, not-suc-le-zero}
 use native.Mathlib.Omega.{arith}
-use lib.ListN.{length, getD, set, take, drop, replicate, length-replicate, getD-replicate, drop-of-length-le}
+use lib.ListN.{length, set, take, replicate, length-replicate, getD-replicate, drop-of-length-le}
 use lib.Seq.{take-all}
 use Rattle.numeric.specs.Tabulate.{tabulate, length-tabulate, at-tabulate}
 use Rattle.numeric.specs.Copy.{copied, copied-turn}

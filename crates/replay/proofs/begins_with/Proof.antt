@@ -2,7 +2,7 @@
 use mathlib.Core.Path.{_≡_, sym, _∙_}
 use Prim.Native.Nat.{_+_, _-_, _≤_}
 use native.Mathlib.Omega.{arith}
-use native.Mathlib.Nat.{add-zero, add-assoc}
+use native.Mathlib.Nat.{add-zero}
 use lib.ListN.{length, drop}
 use Rattle.replay.specs.Same.{beginsWith}
 use Rattle.replay.proofs.Same.{byte-agrees, byte-differs, begins-past, begins-all}

@@ -3,7 +3,6 @@ use mathlib.Core.Path.{sym, _∙_}
 use native.Mathlib.Omega.{arith}
 use lib.ListN.{length}
 use lib.Seq.{length-take-le}
-use Rattle.job_lines.specs.Put.{written-first}
 use Rattle.job_run.specs.Job.{turn}
 use Rattle.job_run.proofs.Moves.{turn-moves}
 use Rattle.job_run.proofs.Ends.{turnsLeft, turn-shortens}

@@ -1,11 +1,10 @@
 -- `facts::tell_in_order` meets its contract (01, Turn). The loop's invariant: the turns told, and those left from where they came to, are all of them.
-use mathlib.Core.Path.{_≡_, sym, ap, _∙_}
 use Prim.Native.Nat.{_-_, _≤_}
 use native.Mathlib.Omega.{arith}
 use lib.ListN.{take}
 use lib.Seq.{slice}
 use Rattle.job_history.specs.Lent.{turnFacts}
-use Rattle.job_history.proofs.Telling.{Telling, telling-start, telling-turn, telling-end, loop-done, loop-on, loop-off}
+use Rattle.job_history.proofs.Telling.{Telling, telling-start, loop-done, loop-on, loop-off}
 use borrow.Author.Needs.{needs}
 use Rattle.job_history.proofs.facts.tell_in_order.Statement.{statement}
 use Rattle.job_history.proofs.facts.tell_in_order.Tie as tie

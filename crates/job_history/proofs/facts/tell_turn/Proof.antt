@@ -1,6 +1,6 @@
 -- `facts::tell_turn` meets its contract (01, Turn): the turn of its heater, and the thermostat layer before and after it.
 use native.Mathlib.Omega.{arith}
-use mathlib.Core.Path.{_≡_, refl}
+use mathlib.Core.Path.{_≡_}
 use Prim.Native.Nat.{ℕ, _≤_, _<_}
 use Rattle.numeric.proofs.Layer.{layer-below}
 use Rattle.mixing.specs.Limits.{maxLayers}

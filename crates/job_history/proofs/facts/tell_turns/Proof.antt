@@ -1,15 +1,11 @@
 -- `facts::tell_turns` meets its contract (01, Turn): the turns in the order of work.
-use mathlib.Core.Path.{_≡_, sym, ap, _∙_}
+use mathlib.Core.Path.{sym, ap, _∙_}
 use mathlib.Core.List.{List}
-use Prim.Native.Nat.{ℕ}
 use native.Mathlib.Omega.{arith}
 use lib.Ieee.{Float}
 use Rattle.working_order.specs.Order.{risingOrder}
 use Rattle.working_order.proofs.Entries.{entry}
 use Rattle.storage_tank.proofs.TurnLoop.{order-is}
-use Rattle.job_history.specs.declared.Turns.{Turns}
-use Rattle.job_history.specs.Facts.{turnsOf}
-use Rattle.job_history.specs.Lent.{turnFacts}
 use borrow.Author.Needs.{needs}
 use Rattle.job_history.proofs.facts.tell_turns.Statement.{statement}
 use Rattle.job_history.proofs.facts.tell_turns.Tie as tie
