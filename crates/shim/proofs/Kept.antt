@@ -15,30 +15,19 @@ use Rattle.storage_tank.specs.declared.Report.{Report}
 use Rattle.storage_tank.specs.declared.Stepped.{Stepped}
 use Rattle.storage_tank.specs.Fixed.{fixedIn, stateIn}
 use Rattle.storage_tank.specs.Work.{End, refused, done, work}
+use Rattle.storage_tank.specs.Arrays.{fittedIn, heatersOf, thermostatsOf, linesIn, HoldsLines}
 use Rattle.storage_tank.specs.Calls.{answer, stepped}
 use Rattle.storage_tank.proofs.Calls.{refused-step}
-use Rattle.shim.specs.Tanks.{fittedIn, tankIn, heatersOf, thermostatsOf, TankWritten}
-use Rattle.shim.specs.Reports.{linesIn, reportIn, figuresOf, lineFlagsOf, roundsOf, ReportWritten}
+use Rattle.storage_tank.proofs.LentArrays.{places}
+use Rattle.shim.specs.Tanks.{tankIn, TankWritten}
+use Rattle.shim.specs.Reports.{reportIn, totalsOf, figuresOf, lineFlagsOf, roundsOf, ReportWritten}
 use Rattle.shim.specs.Answers.{StepAnswered}
-
--- ---- a list is the list of its places
-
-module _ {A : Type 0} (d : A) where
-  places-from : (xs : List A) (g : ℕ → A) (i : ℕ) → ((j : ℕ) → g (i + j) ≡ getD xs j d) → tabulate g (length xs) i ≡ xs
-  unfolding tabulate
-  places-from [] g i h = refl
-  places-from (x ∷ xs) g i h =
-      let first : i ≡ i + 0 = omega arith in
-      rw (ap g first ∙ h 0, places-from xs g (i + 1) (λ j. let next : i + 1 + j ≡ i + suc j = omega arith in ap g next ∙ h (suc j)))
-
-  places : (n : ℕ) (xs : List A) → length xs ≡ n → tabulate (λ (i : ℕ). getD xs i d) n 0 ≡ xs
-  places n xs e = subst (λ (k : ℕ). tabulate (λ (i : ℕ). getD xs i d) k 0 ≡ xs) e (places-from xs (λ (i : ℕ). getD xs i d) 0 (λ j. let start : 0 + j ≡ j = omega arith in ap (λ (k : ℕ). getD xs k d) start))
 
 -- ---- arrays of the lent lengths hold the tank and the report that are read from them
 
 module _ (counts : List ℕ) (numbers temps heaters : List Float) (thermostats flags : List Bool) (counts-long : length counts ≡ 2) (numbers-long : length numbers ≡ 6) (heaters-long : length heaters ≡ 24) (thermostats-long : length thermostats ≡ 8) where
   pub tank-held-as-lent : TankWritten (tankIn counts numbers temps heaters thermostats flags) counts numbers temps heaters thermostats flags
-  unfolding tankIn fittedIn heatersOf thermostatsOf tabulate
+  unfolding fittedIn heatersOf thermostatsOf tabulate
   tank-held-as-lent = record {
     counts-held = sym (places 0 2 counts counts-long);
     numbers-held = sym (places nan 6 numbers numbers-long);
@@ -57,6 +46,16 @@ module _ (totals figures : List Float) (flags : List Bool) (rounds : List ℕ) (
     flags-held = sym (places false 8 flags flags-long);
     rounds-held = sym (places 0 8 rounds rounds-long);
   }
+
+-- the report that an accepted step's arrays make up
+pub report-held : (r : Report) (totals figures : List Float) (flags : List Bool) (rounds : List ℕ) → totals ≡ totalsOf r → r .lines ≡ linesIn figures flags rounds → HoldsLines figures flags rounds → ReportWritten r totals figures flags rounds
+unfolding linesIn figuresOf lineFlagsOf roundsOf tabulate
+report-held r totals figures flags rounds e l h = record {
+  totals-held = e;
+  figures-held = rw l (sym (places nan 24 figures (h .figures-long)));
+  flags-held = rw l (sym (places false 8 flags (h .flags-long)));
+  rounds-held = rw l (sym (places 0 8 rounds (h .rounds-long)));
+}
 
 -- ---- a step changes the layers and the flags alone
 

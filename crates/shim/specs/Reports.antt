@@ -1,5 +1,5 @@
 -- States how a report stands in lent arrays, both ways (01, The four calls: what a step takes and answers).
-use Prim.Native.Nat.{ℕ, _+_}
+use Prim.Native.Nat.{ℕ}
 use mathlib.Core.Path.{_≡_}
 use mathlib.Core.Bool.{Bool, false}
 use mathlib.Core.List.{List, [], _∷_, _++_}
@@ -9,18 +9,13 @@ use Rattle.numeric.specs.Tabulate.{tabulate}
 use Rattle.working_order.specs.Order.{maxHeaters}
 use Rattle.storage_tank.specs.declared.HeaterLine.{HeaterLine}
 use Rattle.storage_tank.specs.declared.Report.{Report}
+use Rattle.storage_tank.specs.Arrays.{linesIn}
 
 -- what stands past the end of a list of lines
 abbrev noLine : HeaterLine
 noLine = record { flag = false; adjusted = nan; supplied = nan; losses = nan; rounds = 0 }
 
--- ---- from arrays: adjusted inputs, then energies supplied, then losses
-
-abbrev pub lineIn : List Float → List Bool → List ℕ → ℕ → HeaterLine
-lineIn xs flags rounds h = record { flag = getD flags h false; adjusted = getD xs h nan; supplied = getD xs (8 + h) nan; losses = getD xs (16 + h) nan; rounds = getD rounds h 0 }
-
-unfoldable pub linesIn : List Float → List Bool → List ℕ → List HeaterLine
-linesIn xs flags rounds = tabulate (lineIn xs flags rounds) maxHeaters 0
+-- ---- from arrays
 
 -- totals: energy withdrawn, volume used, average draw-off temperature, recoverable losses
 unfoldable pub reportIn : List Float → List Float → List Bool → List ℕ → Report
@@ -32,7 +27,7 @@ reportIn totals figures flags rounds = record {
   lines = linesIn figures flags rounds;
 }
 
--- ---- to arrays
+-- ---- to arrays: adjusted inputs, then energies supplied, then losses
 
 abbrev pub totalsOf : Report → List Float
 totalsOf r = r .energy ∷ r .used ∷ r .average ∷ r .recoverable ∷ []

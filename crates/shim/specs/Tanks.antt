@@ -1,28 +1,20 @@
 -- States how a tank stands in lent arrays, both ways (01, The four calls: what make answers, and what a step takes and answers).
-use Prim.Native.Nat.{ℕ, _+_}
+use Prim.Native.Nat.{ℕ}
 use mathlib.Core.Path.{_≡_}
-use mathlib.Core.Bool.{Bool, false}
-use mathlib.Core.List.{List, [], _∷_, _++_}
+use mathlib.Core.Bool.{Bool}
+use mathlib.Core.List.{List, [], _∷_}
 use lib.ListN.{getD}
 use lib.Ieee.{Float, nan}
-use Rattle.numeric.specs.Tabulate.{tabulate}
-use Rattle.working_order.specs.Order.{maxHeaters}
-use Rattle.storage_tank.specs.declared.Heater.{Heater}
+use Rattle.cylinder.specs.declared.Cylinder.{Cylinder}
 use Rattle.storage_tank.specs.declared.StorageTank.{StorageTank}
 use Rattle.storage_tank.specs.declared.TankDesign.{TankDesign}
-use Rattle.storage_tank.specs.Fixed.{noHeater}
+use Rattle.storage_tank.specs.Arrays.{fittedIn, heatersOf, thermostatsOf, tankWith}
 
--- ---- from arrays: rated powers, then positions, then thermostat positions
-
-abbrev pub heaterIn : List Float → List Bool → ℕ → Heater
-heaterIn xs bs h = record { rated = getD xs h nan; position = getD xs (8 + h) nan; «has_thermostat» = getD bs h false; thermostat = getD xs (16 + h) nan }
-
-unfoldable pub fittedIn : List Float → List Bool → List Heater
-fittedIn xs bs = tabulate (heaterIn xs bs) maxHeaters 0
+-- ---- from arrays
 
 -- counts: layers, heaters; numbers: volume, standby loss, density, specific heat, ambient, step length
-unfoldable pub tankIn : List ℕ → List Float → List Float → List Float → List Bool → List Bool → StorageTank
-tankIn counts numbers temps heaters thermostats flags = record {
+abbrev pub cylinderIn : List ℕ → List Float → Cylinder
+cylinderIn counts numbers = record {
   layers = getD counts 0 0;
   volume = getD numbers 0 nan;
   standby = getD numbers 1 nan;
@@ -30,11 +22,10 @@ tankIn counts numbers temps heaters thermostats flags = record {
   cp = getD numbers 3 nan;
   ambient = getD numbers 4 nan;
   timestep = getD numbers 5 nan;
-  temps = temps;
-  heaters = getD counts 1 0;
-  fitted = fittedIn heaters thermostats;
-  flags = flags;
 }
+
+abbrev pub tankIn : List ℕ → List Float → List Float → List Float → List Bool → List Bool → StorageTank
+tankIn counts numbers temps heaters thermostats flags = tankWith (cylinderIn counts numbers) (getD counts 1 0) temps heaters thermostats flags
 
 unfoldable pub designIn : List ℕ → List Float → Float → List Float → List Bool → TankDesign
 designIn counts numbers initial heaters thermostats = record {
@@ -57,15 +48,6 @@ countsOf t = t .layers ∷ t .heaters ∷ []
 
 abbrev pub numbersOf : StorageTank → List Float
 numbersOf t = t .volume ∷ t .standby ∷ t .rho ∷ t .cp ∷ t .ambient ∷ t .timestep ∷ []
-
-unfoldable pub heatersOf : List Heater → List Float
-heatersOf xs =
-    tabulate (λ (h : ℕ). getD xs h noHeater .rated) maxHeaters 0
-    ++ (tabulate (λ (h : ℕ). getD xs h noHeater .position) maxHeaters 0
-    ++ tabulate (λ (h : ℕ). getD xs h noHeater .thermostat) maxHeaters 0)
-
-unfoldable pub thermostatsOf : List Heater → List Bool
-thermostatsOf xs = tabulate (λ (h : ℕ). getD xs h noHeater .«has_thermostat») maxHeaters 0
 
 -- the arrays hold the tank
 pub record TankWritten (t : StorageTank) (counts : List ℕ) (numbers temps heaters : List Float) (thermostats flags : List Bool) : Type 0 where

@@ -4,14 +4,16 @@ ghost use mathlib.Core.List.{[], _∷_};
 ghost use Rattle.mixing.specs.Mix.{mixAnswer, mixLayers, numberOf, roundsOf};
 ghost use Rattle.storage_tank.specs.Calls.{made, stepped};
 ghost use Rattle.shim.specs.Tanks.{designIn, tankIn, TankWritten};
-ghost use Rattle.shim.specs.Reports.{reportIn, ReportWritten};
+ghost use Rattle.shim.specs.Reports.{reportIn};
 ghost use Rattle.shim.specs.Steps.{stepIn};
 ghost use Rattle.shim.specs.Answers.{MakeAnswered, StepAnswered};
+use cylinder::Cylinder;
 use draw_off::event::MAX_EVENTS;
 use mixing::MixAnswer;
 use mixing::limits::MAX_LAYERS;
-use storage_tank::Report;
 use storage_tank::StorageTank;
+use storage_tank::arrays::THREE_EACH;
+use storage_tank::hot_water::WorkAnswer;
 use working_order::MAX_HEATERS;
 
 fn number_of(a: MixAnswer) -> u8
@@ -69,32 +71,20 @@ fn put_tank(
     let layers = t.temps;
     *temps = layers;
     let fitted = t.fitted;
-    let h = crate::tanks::heaters_of(fitted);
+    let h = storage_tank::arrays::heaters_of(fitted);
     *heaters = h;
-    let b = crate::tanks::thermostats_of(fitted);
+    let b = storage_tank::arrays::thermostats_of(fitted);
     *thermostats = b;
     let f = t.flags;
     *flags = f;
 }
 
-fn put_report(
-    r: Report,
-    totals: &mut [f64; 4],
-    figures: &mut [f64; 24],
-    flags: &mut [bool; MAX_HEATERS],
-    rounds: &mut [usize; MAX_HEATERS],
-)
-    ensures { λ u. ⌜ ReportWritten r (now (totals .exit)) (now (figures .exit)) (now (flags .exit)) (now (rounds .exit)) ⌝ }
+// Energy withdrawn, volume used, average draw-off temperature, recoverable losses.
+fn totals_of(w: WorkAnswer) -> [f64; 4]
+    ensures { λ r. ⌜ r ≡ w .totals .energy ∷ w .totals .used ∷ w .average ∷ w .recoverable ∷ [] ⌝ }
 {
-    let t = crate::reports::totals_of(r);
-    *totals = t;
-    let lines = r.lines;
-    let x = crate::reports::figures_of(lines);
-    *figures = x;
-    let f = crate::reports::line_flags_of(lines);
-    *flags = f;
-    let n = crate::reports::rounds_of(lines);
-    *rounds = n;
+    let t = w.totals;
+    [t.energy, t.used, w.average, w.recoverable]
 }
 
 // Makes a tank from the counts, numbers and heaters lent, and writes it in all its arrays: where refused, a tank of no layers, no heaters and zeros.
@@ -141,32 +131,55 @@ pub extern "C" fn huszmago_step(
 ) -> u8
     ensures { λ r. ⌜ StepAnswered (stepped (tankIn (now (counts .entry)) (now (numbers .entry)) (now (temps .entry)) (now (heaters .entry)) (now (thermostats .entry)) (now (flags .entry))) (reportIn (now (totals .entry)) (now (figures .entry)) (now («line_flags» .entry)) (now (rounds .entry))) (stepIn feed (now (asked .entry)) (now (volumes .entry)) (now (present .entry)) (now (points .entry)))) r (now (counts .exit)) (now (numbers .exit)) (now (temps .exit)) (now (heaters .exit)) (now (thermostats .exit)) (now (flags .exit)) (now (totals .exit)) (now (figures .exit)) (now («line_flags» .exit)) (now (rounds .exit)) ⌝ }
 {
-    let c = *counts;
-    let n = *numbers;
-    let layers = *temps;
-    let h = *heaters;
-    let b = *thermostats;
-    let f = *flags;
-    let t = crate::tanks::tank_in(c, n, layers, h, b, f);
-    let four = *totals;
-    let x = *figures;
-    let g = *line_flags;
-    let k = *rounds;
-    let r = crate::reports::report_in(four, x, g, k);
-    let e = *asked;
-    let v = *volumes;
-    let p = *present;
-    let q = *points;
-    let s = t.demand_hot_water(r, crate::steps::step_in(feed, e, v, p, q));
-    if s.number != 0 {
-        return s.number;
+    crate::lengths::lengths_told(
+        *counts,
+        *numbers,
+        *heaters,
+        *thermostats,
+        *totals,
+        *figures,
+        *line_flags,
+        *rounds,
+    );
+    let c = Cylinder {
+        layers: counts[0],
+        volume: numbers[0],
+        standby: numbers[1],
+        rho: numbers[2],
+        cp: numbers[3],
+        ambient: numbers[4],
+        timestep: numbers[5],
+    };
+    let mut layers = *temps;
+    let mut on = *flags;
+    let mut x = [0.0; THREE_EACH];
+    let mut g = [false; MAX_HEATERS];
+    let mut k = [0; MAX_HEATERS];
+    let w = storage_tank::hot_water::work_step(
+        c,
+        counts[1],
+        heaters,
+        thermostats,
+        feed,
+        asked[0],
+        volumes,
+        asked[1],
+        present,
+        points,
+        &mut layers,
+        &mut on,
+        &mut x,
+        &mut g,
+        &mut k,
+    );
+    if w.number != 0 {
+        return w.number;
     }
-    let tank = s.tank;
-    let after = tank.temps;
-    *temps = after;
-    let on = tank.flags;
+    *temps = layers;
     *flags = on;
-    let report = s.report;
-    put_report(report, totals, figures, line_flags, rounds);
+    *totals = totals_of(w);
+    *figures = x;
+    *line_flags = g;
+    *rounds = k;
     0
 }

@@ -1,10 +1,9 @@
 // A tank, from the arrays that hold it and back.
 ghost use mathlib.Core.Path.{_≡_};
 ghost use Prim.Native.Nat.{_<_};
-ghost use lib.ListN.{length};
 ghost use Rattle.working_order.specs.Order.{maxHeaters};
-ghost use Rattle.shim.specs.Tanks.{heaterIn, fittedIn, tankIn, designIn, countsOf, numbersOf, heatersOf, thermostatsOf};
-use mixing::limits::MAX_LAYERS;
+ghost use Rattle.storage_tank.specs.Arrays.{heaterIn, fittedIn};
+ghost use Rattle.shim.specs.Tanks.{designIn, countsOf, numbersOf};
 use storage_tank::Heater;
 use storage_tank::StorageTank;
 use storage_tank::TankDesign;
@@ -36,33 +35,6 @@ fn fitted_in(xs: [f64; 24], bs: [bool; MAX_HEATERS]) -> [Heater; MAX_HEATERS]
         heater_in(xs, bs, 6),
         heater_in(xs, bs, 7),
     ]
-}
-
-// The lengths are told too: an array that is lent has no fact of its own on them.
-pub fn tank_in(
-    counts: [usize; 2],
-    numbers: [f64; 6],
-    temps: [f64; MAX_LAYERS],
-    heaters: [f64; 24],
-    thermostats: [bool; MAX_HEATERS],
-    flags: [bool; MAX_HEATERS],
-) -> StorageTank
-    ensures { λ r. ⌜ (r ≡ tankIn counts numbers temps heaters thermostats flags) × (length counts ≡ 2) × (length numbers ≡ 6) × (length heaters ≡ 24) × (length thermostats ≡ 8) ⌝ }
-{
-    let fitted = fitted_in(heaters, thermostats);
-    StorageTank {
-        layers: counts[0],
-        volume: numbers[0],
-        standby: numbers[1],
-        rho: numbers[2],
-        cp: numbers[3],
-        ambient: numbers[4],
-        timestep: numbers[5],
-        temps,
-        heaters: counts[1],
-        fitted,
-        flags,
-    }
 }
 
 pub fn design_in(
@@ -99,66 +71,4 @@ pub fn numbers_of(t: StorageTank) -> [f64; 6]
     ensures { λ r. ⌜ r ≡ numbersOf t ⌝ }
 {
     [t.volume, t.standby, t.rho, t.cp, t.ambient, t.timestep]
-}
-
-pub fn heaters_of(fitted: [Heater; MAX_HEATERS]) -> [f64; 24]
-    ensures { λ r. ⌜ r ≡ heatersOf fitted ⌝ }
-{
-    let a = fitted[0];
-    let b = fitted[1];
-    let c = fitted[2];
-    let d = fitted[3];
-    let e = fitted[4];
-    let f = fitted[5];
-    let g = fitted[6];
-    let h = fitted[7];
-    [
-        a.rated,
-        b.rated,
-        c.rated,
-        d.rated,
-        e.rated,
-        f.rated,
-        g.rated,
-        h.rated,
-        a.position,
-        b.position,
-        c.position,
-        d.position,
-        e.position,
-        f.position,
-        g.position,
-        h.position,
-        a.thermostat,
-        b.thermostat,
-        c.thermostat,
-        d.thermostat,
-        e.thermostat,
-        f.thermostat,
-        g.thermostat,
-        h.thermostat,
-    ]
-}
-
-pub fn thermostats_of(fitted: [Heater; MAX_HEATERS]) -> [bool; MAX_HEATERS]
-    ensures { λ r. ⌜ r ≡ thermostatsOf fitted ⌝ }
-{
-    let a = fitted[0];
-    let b = fitted[1];
-    let c = fitted[2];
-    let d = fitted[3];
-    let e = fitted[4];
-    let f = fitted[5];
-    let g = fitted[6];
-    let h = fitted[7];
-    [
-        a.has_thermostat,
-        b.has_thermostat,
-        c.has_thermostat,
-        d.has_thermostat,
-        e.has_thermostat,
-        f.has_thermostat,
-        g.has_thermostat,
-        h.has_thermostat,
-    ]
 }

@@ -140,3 +140,7 @@ module _ (t : StorageTank) (a : Step) where
       let whole : firstRefusal (first ++ (middle ++ stepLast)) ≡ 0 = step-of ∙ e in
       let p = parts-pass first (middle ++ stepLast) whole in
       (p .0, parts-pass middle stepLast (p .1) .1)
+
+-- equals are refused for the same
+pub refusal-for : (t t' : StorageTank) (a a' : Step) → t ≡ t' → a ≡ a' → stepRefusal (fixedIn t) (stateIn t) a ≡ stepRefusal (fixedIn t') (stateIn t') a'
+refusal-for t t' a a' d e = rw (d, e)

@@ -8,6 +8,7 @@ pub mod Works
 pub mod Course
 pub mod Demand
 pub mod Calls
+pub mod LentArrays
 pub mod FirstRefusal
 pub mod Filling
 pub mod TurnLoop

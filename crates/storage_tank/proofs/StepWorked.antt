@@ -1,5 +1,5 @@
 -- Proves how the parts of a step's code work out its answer (01, Step): the checks, the events, the turns, and what the end looks at, each of which may refuse it.
-use mathlib.Core.Path.{_≡_, refl, sym, ap, _∙_}
+use mathlib.Core.Path.{_≡_, refl, sym, ap, _∙_, subst}
 use mathlib.Core.List.{List, [], _∷_}
 use mathlib.Core.Bool.{Bool, true, false, cond, _&&_}
 use Prim.Native.Nat.{ℕ, zero, suc, _-_, _≤_}
@@ -18,17 +18,18 @@ use Rattle.draw_off.specs.declared.event.EventAnswer.{EventAnswer}
 use Rattle.draw_off.specs.Lent.{maxEvents, drawingOf}
 use Rattle.draw_off.specs.Event.{Event, Drawing, eventOf, tempsAfterEvent, totalsAfterEvent, eventNumber, drawAll}
 use Rattle.working_order.specs.Order.{maxHeaters}
+use Rattle.storage_tank.specs.declared.HeaterLine.{HeaterLine}
 use Rattle.storage_tank.specs.declared.StorageTank.{StorageTank}
 use Rattle.storage_tank.specs.declared.Step.{Step}
 use Rattle.storage_tank.specs.declared.Report.{Report}
 use Rattle.storage_tank.specs.declared.Stepped.{Stepped}
-use Rattle.storage_tank.specs.declared.turns.Heated.{Heated}
+use Rattle.storage_tank.specs.declared.hot_water.WorkAnswer.{WorkAnswer}
 use Rattle.storage_tank.specs.Fixed.{Fixed, fixedIn, stateIn}
 use Rattle.storage_tank.specs.Order.{workingOrder}
 use Rattle.storage_tank.specs.Checks.{stepRefusal}
 use Rattle.storage_tank.specs.Work.{Progress, Turn, End, refused, done, resume, andThen, endBy, withDraw, afterEvent, event, events, wantedVolumes, averageOf, withAverage, turnOf, heaterTurn, turns, allTurns, opening, recoverable, closed, begin, work}
 use Rattle.storage_tank.specs.Calls.{answer, stepped}
-use Rattle.storage_tank.specs.Lent.{settingsOnly, noTurns, progressOf, noTotals, acceptedStep}
+use Rattle.storage_tank.specs.Lent.{Heated, settingsOnly, unheated, progressOf, noTotals, acceptedStep, refusedStep, StepWorked}
 use Rattle.storage_tank.proofs.Works.{unless-passes}
 use Rattle.storage_tank.proofs.FirstRefusal.{counts-pass, step-parts}
 
@@ -68,6 +69,26 @@ turns-settings f a (h ∷ hs) s = go _ _ (λ s'. turns-settings f a hs s')
     go us (refused n) ih = unfold resume in refl
     go us (done s') ih = unfold resume in (ih s')
 
+-- ---- what the code asks of the counts
+
+pub step-counts : (t : StorageTank) (a : Step) → stepRefusal (fixedIn t) (stateIn t) a ≡ 0 → (1 ≤ t .layers) × (t .layers ≤ maxLayers) × (t .heaters ≤ maxHeaters) × (a .events ≤ maxEvents)
+step-counts t a passed =
+    let p = step-parts t a passed in
+    let n = counts-pass (fixedIn t .cylinder) (t .heaters) (p .0) in
+    let e = unless-passes (leb (a .events) maxEvents && eqb (a .entries) (t .heaters)) 6 _ (omega arith) (p .1) in
+    (n .1, n .0, n .2, leb→le (a .events) maxEvents (and-l (leb (a .events) maxEvents) (eqb (a .entries) (t .heaters)) (e .0)))
+
+-- ---- a step that is worked
+
+-- by the number of its refusal
+pub refused-worked : (t : StorageTank) (a : Step) (w : WorkAnswer) (k : ℕ) (temps : List Float) (flags : List Bool) (lines : List HeaterLine) → w .number ≡ k → (k ≡ 0 → ⊥) → ((r : Report) → refusedStep t r k ≡ stepped t r a) → StepWorked t a w temps flags lines
+refused-worked t a w k temps flags lines e n f = record { refuses = λ r m. ap (λ (j : ℕ). refusedStep t r j) e ∙ f r; accepts = λ r z. absurd (n (sym e ∙ z)) }
+
+-- what is worked of one tank and step is worked of their equals
+pub worked-for : (t t' : StorageTank) (a a' : Step) (w : WorkAnswer) (temps : List Float) (flags : List Bool) (lines : List HeaterLine) → t ≡ t' → a ≡ a' → StepWorked t a w temps flags lines → StepWorked t' a' w temps flags lines
+worked-for t t' a a' w temps flags lines d e s =
+    subst (λ (x : StorageTank). StepWorked x a' w temps flags lines) d (subst (λ (y : Step). StepWorked t y w temps flags lines) e s)
+
 -- ---- the step
 
 module _ (t : StorageTank) (r : Report) (a : Step) where
@@ -75,7 +96,7 @@ module _ (t : StorageTank) (r : Report) (a : Step) where
   c = fixedIn t .cylinder
 
   abbrev refusedWith : ℕ → Stepped
-  refusedWith k = record { number = k; tank = t; report = r }
+  refusedWith k = refusedStep t r k
 
   pub step-refused : (k : ℕ) → k ≡ stepRefusal (fixedIn t) (stateIn t) a → (k ≡ 0 → ⊥) → refusedWith k ≡ stepped t r a
   unfolding stepped work begin answer
@@ -83,14 +104,6 @@ module _ (t : StorageTank) (r : Report) (a : Step) where
   step-refused (suc k) e n = rw (← e)
 
   module _ (passed : stepRefusal (fixedIn t) (stateIn t) a ≡ 0) where
-    -- what the code asks of the counts
-    pub step-counts : (1 ≤ t .layers) × (t .layers ≤ maxLayers) × (t .heaters ≤ maxHeaters) × (a .events ≤ maxEvents)
-    step-counts =
-        let p = step-parts t a passed in
-        let n = counts-pass c (t .heaters) (p .0) in
-        let e = unless-passes (leb (a .events) maxEvents && eqb (a .entries) (t .heaters)) 6 _ (omega arith) (p .1) in
-        (n .1, n .0, n .2, leb→le (a .events) maxEvents (and-l (leb (a .events) maxEvents) (eqb (a .entries) (t .heaters)) (e .0)))
-
     -- the end of the work, from where the events ended
     abbrev after : End → End
     after e = closed (resume [] [] e (λ s. allTurns (fixedIn t) a s) .end)
@@ -118,12 +131,12 @@ module _ (t : StorageTank) (r : Report) (a : Step) where
 
       module _ (accepted : d .number ≡ 0) (average : Float) (averaged : average ≡ cond (wideClose (d .totals .drawn) zero-f) (getD first (t .layers - 1) nan) (d .totals .weighted ⊘ d .totals .drawn))
           (h : Heated) (temps charged : List Float)
-          (heated : (s : Totals) (x : Float) → turns (fixedIn t) (settingsOnly (a .settings)) (workingOrder (fixedIn t)) (progressOf s x first (replicate maxLayers zero-f) (noTurns (t .flags))) .end ≡ endBy (h .number) (progressOf s x temps charged h)) where
+          (heated : (s : Totals) (x : Float) → turns (fixedIn t) (settingsOnly (a .settings)) (workingOrder (fixedIn t)) (progressOf s x first (replicate maxLayers zero-f) (unheated (t .flags))) .end ≡ endBy (h .number) (progressOf s x temps charged h)) where
         -- where the turns ended
         abbrev left : Progress
         left = progressOf (d .totals) average temps charged h
 
-        opened : withAverage c (withDraw first (d .totals) (opening (stateIn t))) ≡ progressOf (d .totals) average first (replicate maxLayers zero-f) (noTurns (t .flags))
+        opened : withAverage c (withDraw first (d .totals) (opening (stateIn t))) ≡ progressOf (d .totals) average first (replicate maxLayers zero-f) (unheated (t .flags))
         unfolding withAverage averageOf opening
         opened = rw averaged
 
@@ -154,6 +167,10 @@ module _ (t : StorageTank) (r : Report) (a : Step) where
           unfolding answer endBy
           close-refused e = sym (closed-is ∙ rw e)
 
-          pub step-accepted : isFinite ≡ true → acceptedStep t temps (d .totals) average (h .losses ⊛ dbl 0x3fe8_0000_0000_0000) h ≡ stepped t r a
+          -- what the code answers
+          abbrev pub workAnswer : WorkAnswer
+          workAnswer = record { number = 0; totals = d .totals; average = average; recoverable = h .losses ⊛ dbl 0x3fe8_0000_0000_0000 }
+
+          pub step-accepted : isFinite ≡ true → acceptedStep t temps (h .flags) workAnswer (h .lines) ≡ stepped t r a
           unfolding answer endBy recoverable
           step-accepted e = sym (closed-is ∙ rw e)

@@ -1,4 +1,5 @@
--- States how the code holds a step's progress (01, Step): the layers and the charged losses in lent arrays, what the turns leave beside them in one struct.
+-- States how the code holds a step's progress (01, Step): the layers, the charged losses, the flags and the lines in lent arrays, the heaters' losses and the
+-- number of a refusal in what its parts answer.
 use Prim.Native.Nat.{ℕ}
 use mathlib.Core.Path.{_≡_}
 use mathlib.Core.Bool.{Bool}
@@ -17,8 +18,13 @@ use Rattle.storage_tank.specs.declared.Setting.{Setting}
 use Rattle.storage_tank.specs.declared.Step.{Step}
 use Rattle.storage_tank.specs.declared.StorageTank.{StorageTank}
 use Rattle.storage_tank.specs.declared.Stepped.{Stepped}
-use Rattle.storage_tank.specs.declared.turns.Heated.{Heated}
+use Rattle.storage_tank.specs.declared.HeaterLine.{HeaterLine}
+use Rattle.storage_tank.specs.declared.Report.{Report}
+use Rattle.storage_tank.specs.declared.turns.TurnsAnswer.{TurnsAnswer}
+use Rattle.storage_tank.specs.declared.hot_water.WorkAnswer.{WorkAnswer}
 use Rattle.storage_tank.specs.Fixed.{placed, placedHeaters}
+use Rattle.storage_tank.specs.Arrays.{linesIn}
+use Rattle.storage_tank.specs.Calls.{stepped}
 use Rattle.storage_tank.specs.Work.{Progress, lineOf, zeroLine, turns, endBy}
 
 -- the heater x in a tank of n layers
@@ -29,9 +35,23 @@ immersion n x = record { rated = x .rated; layer = layerOf (x .position) n; ther
 abbrev pub settingsOnly : List Setting → Step
 settingsOnly settings = record { feed = zero-f; events = 0; volumes = []; entries = 0; settings = settings }
 
+-- what the turns have come to
+pub record Heated : Type 0 where
+  pub number : ℕ
+  pub losses : Float
+  pub flags : List Bool
+  pub lines : List HeaterLine
+
+-- as the code holds it
+abbrev pub heatedIn : TurnsAnswer → List Bool → List Float → List Bool → List ℕ → Heated
+heatedIn s on figures flags rounds = record { number = s .number; losses = s .losses; flags = on; lines = linesIn figures flags rounds }
+
 -- before the first turn
-abbrev pub noTurns : List Bool → Heated
-noTurns flags = record { number = 0; losses = zero-f; flags = flags; lines = replicate maxHeaters zeroLine }
+abbrev pub noTurns : TurnsAnswer
+noTurns = record { number = 0; losses = zero-f }
+
+abbrev pub unheated : List Bool → Heated
+unheated flags = record { number = 0; losses = zero-f; flags = flags; lines = replicate maxHeaters zeroLine }
 
 -- after the turn u of the heater given as h
 abbrev pub afterHeat : Cylinder → ℕ → Turned → Heated → Heated
@@ -60,11 +80,11 @@ progressOf t average temps charged s = record {
   lines = s .lines;
 }
 
--- the turns of the heaters hs are worked from the layers and the charged losses at entry, whatever was drawn: what is answered, and what the lent arrays hold
-abbrev pub TurnsWorked : Cylinder → ℕ → List Heater → List Setting → List ℕ → List Float → List Float → List Bool → Heated → List Float → List Float → Type 0
-TurnsWorked c n fitted settings hs temps charged flags r temps' charged' =
+-- the turns of the heaters hs are worked from the layers, the charged losses and s, whatever was drawn: what is answered, and what the lent arrays hold
+abbrev pub TurnsWorked : Cylinder → ℕ → List Heater → List Setting → List ℕ → List Float → List Float → Heated → Heated → List Float → List Float → Type 0
+TurnsWorked c n fitted settings hs temps charged s r temps' charged' =
     (t : Totals) (average : Float)
-    → turns (record { cylinder = c; heaters = placedHeaters n fitted }) (settingsOnly settings) hs (progressOf t average temps charged (noTurns flags)) .end
+    → turns (record { cylinder = c; heaters = placedHeaters n fitted }) (settingsOnly settings) hs (progressOf t average temps charged s) .end
     ≡ endBy (r .number) (progressOf t average temps' charged' r)
 
 -- before the first event
@@ -72,8 +92,8 @@ abbrev pub noTotals : Totals
 noTotals = record { energy = zero-f; used = zero-f; weighted = zero-f; drawn = zero-f }
 
 -- the answer of an accepted step, from where its work ended
-abbrev pub acceptedStep : StorageTank → List Float → Totals → Float → Float → Heated → Stepped
-acceptedStep t temps totals average recoverable h = record {
+abbrev pub acceptedStep : StorageTank → List Float → List Bool → WorkAnswer → List HeaterLine → Stepped
+acceptedStep t temps flags w lines = record {
   number = 0;
   tank = record {
     layers = t .layers;
@@ -86,7 +106,16 @@ acceptedStep t temps totals average recoverable h = record {
     temps = temps;
     heaters = t .heaters;
     fitted = t .fitted;
-    flags = h .flags;
+    flags = flags;
   };
-  report = record { energy = totals .energy; used = totals .used; average = average; recoverable = recoverable; lines = h .lines };
+  report = record { energy = w .totals .energy; used = w .totals .used; average = w .average; recoverable = w .recoverable; lines = lines };
 }
+
+-- and of a refused one
+abbrev pub refusedStep : StorageTank → Report → ℕ → Stepped
+refusedStep t r n = record { number = n; tank = t; report = r }
+
+-- a step of the tank t is worked: by what its work answers and leaves, the call's answer, whatever report is handed in
+pub record StepWorked (t : StorageTank) (a : Step) (w : WorkAnswer) (temps : List Float) (flags : List Bool) (lines : List HeaterLine) : Type 0 where
+  pub refuses : (r : Report) → (w .number ≡ 0 → ⊥) → refusedStep t r (w .number) ≡ stepped t r a
+  pub accepts : (r : Report) → w .number ≡ 0 → acceptedStep t temps flags w lines ≡ stepped t r a

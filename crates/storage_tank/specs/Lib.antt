@@ -3,6 +3,7 @@ pub mod Fixed
 pub mod Order
 pub mod Checks
 pub mod Work
+pub mod Arrays
 pub mod Lent
 pub mod History
 pub mod Calls

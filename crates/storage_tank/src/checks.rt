@@ -7,9 +7,11 @@ ghost use Rattle.numeric.specs.Holds.{holds};
 ghost use Rattle.draw_off.specs.Lent.{maxEvents};
 ghost use Rattle.working_order.specs.Order.{maxHeaters};
 ghost use Rattle.storage_tank.specs.Fixed.{placed, noHeater};
+ghost use Rattle.storage_tank.specs.Arrays.{fittedIn, settingsIn};
 ghost use Rattle.storage_tank.specs.Checks.{notNegative, isPosition, fairHeater, fairPoints, numbersCheck, noSetting};
 use crate::Heater;
-use crate::Setting;
+use crate::arrays::THREE_EACH;
+use crate::arrays::TWO_EACH;
 use cylinder::Cylinder;
 use draw_off::event::MAX_EVENTS;
 use heating::SetPoints;
@@ -57,13 +59,17 @@ pub fn is_fair_heater(h: Heater) -> bool
 }
 
 // 5, of the first n heaters.
-pub fn are_fair_heaters(n: usize, fitted: [Heater; MAX_HEATERS]) -> bool
+pub fn are_fair_heaters(
+    n: usize,
+    heaters: &[f64; THREE_EACH],
+    thermostats: &[bool; MAX_HEATERS],
+) -> bool
     requires { ⌜ n ≤ maxHeaters ⌝ }
-    ensures { λ r. ⌜ r ≡ holds (λ (h : ℕ). fairHeater (placed (getD fitted h noHeater))) n 0 ⌝ }
+    ensures { λ r. ⌜ r ≡ holds (λ (h : ℕ). fairHeater (placed (getD (fittedIn (now (heaters .entry)) (now (thermostats .entry))) h noHeater))) n 0 ⌝ }
 {
     let mut h = 0;
     while h < n {
-        let x = fitted[h];
+        let x = crate::arrays::heater_at(heaters, thermostats, h);
         if !is_fair_heater(x) {
             return false;
         }
@@ -113,14 +119,13 @@ fn are_fair_both(l: f64, u: f64) -> bool
 }
 
 // 8, of the first n settings.
-pub fn are_fair_settings(n: usize, settings: [Setting; MAX_HEATERS]) -> bool
+pub fn are_fair_settings(n: usize, present: &[bool; TWO_EACH], points: &[f64; TWO_EACH]) -> bool
     requires { ⌜ n ≤ maxHeaters ⌝ }
-    ensures { λ r. ⌜ r ≡ holds (λ (h : ℕ). fairPoints (getD settings h noSetting .points)) n 0 ⌝ }
+    ensures { λ r. ⌜ r ≡ holds (λ (h : ℕ). fairPoints (getD (settingsIn (now (present .entry)) (now (points .entry))) h noSetting .points)) n 0 ⌝ }
 {
     let mut h = 0;
     while h < n {
-        let x = settings[h];
-        let p = x.points;
+        let p = crate::arrays::points_at(present, points, h);
         if !is_fair_points(p) {
             return false;
         }

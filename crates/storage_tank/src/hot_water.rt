@@ -9,14 +9,20 @@ ghost use Rattle.numeric.specs.Double.{_⊘_, zero-f};
 ghost use Rattle.numeric.specs.Close.{wideClose};
 ghost use Rattle.mixing.specs.Limits.{maxLayers};
 ghost use Rattle.storage_tank.specs.Calls.{stepped};
-ghost use Rattle.storage_tank.specs.Lent.{noTotals, acceptedStep};
+ghost use Rattle.storage_tank.specs.Arrays.{linesIn, HoldsLines, ZeroLines, tankWith, stepWith};
+ghost use Rattle.storage_tank.specs.Lent.{noTotals, acceptedStep, StepWorked};
+use crate::HeaterLine;
 use crate::Report;
 use crate::Step;
 use crate::Stepped;
 use crate::StorageTank;
-use crate::turns::Heated;
+use crate::arrays::THREE_EACH;
+use crate::arrays::TWO_EACH;
+use cylinder::Cylinder;
 use draw_off::Totals;
+use draw_off::event::MAX_EVENTS;
 use mixing::limits::MAX_LAYERS;
+use working_order::MAX_HEATERS;
 
 // Before the first event.
 pub fn no_totals() -> Totals
@@ -50,30 +56,102 @@ fn are_both_finite(x: f64, y: f64) -> bool
     numeric::compare::is_finite(y)
 }
 
+// What a step's work answers: 0 with what was drawn and the two figures of its end, or the number of 01's refusal.
+pub struct WorkAnswer {
+    pub number: u8,
+    pub totals: Totals,
+    pub average: f64,
+    pub recoverable: f64,
+}
+
+// Nothing but the number is looked at.
+fn refused(number: u8) -> WorkAnswer
+    ensures { λ r. ⌜ r .number ≡ number ⌝ }
+{
+    WorkAnswer {
+        number,
+        totals: no_totals(),
+        average: 0.0,
+        recoverable: 0.0,
+    }
+}
+
+// A step's work, from checks to end, on what both calls lend: accepted, the layers, the heaters' flags `on` and the report's lines are what the step leaves;
+// refused, they are of no use.
+pub fn work_step(
+    c: Cylinder,
+    n: usize,
+    heaters: &[f64; THREE_EACH],
+    thermostats: &[bool; MAX_HEATERS],
+    feed: f64,
+    events: usize,
+    volumes: &[f64; MAX_EVENTS],
+    entries: usize,
+    present: &[bool; TWO_EACH],
+    points: &[f64; TWO_EACH],
+    temps: &mut [f64; MAX_LAYERS],
+    on: &mut [bool; MAX_HEATERS],
+    figures: &mut [f64; THREE_EACH],
+    flags: &mut [bool; MAX_HEATERS],
+    rounds: &mut [usize; MAX_HEATERS],
+) -> WorkAnswer
+    requires { ⌜ ZeroLines (now figures) (now flags) (now rounds) ⌝ }
+    ensures { λ r. ⌜ StepWorked (tankWith c n (now (temps .entry)) (now (heaters .entry)) (now (thermostats .entry)) (now (on .entry))) (stepWith feed events (now (volumes .entry)) entries (now (present .entry)) (now (points .entry))) r (now (temps .exit)) (now (on .exit)) (linesIn (now (figures .exit)) (now (flags .exit)) (now (rounds .exit))) × (r .number ≡ 0 → HoldsLines (now (figures .exit)) (now (flags .exit)) (now (rounds .exit))) ⌝ }
+{
+    let k = crate::refusals::lent_refusal(
+        c, n, temps, heaters, thermostats, feed, events, volumes, entries, present, points,
+    );
+    if k != 0 {
+        return refused(k);
+    }
+    let vol = cylinder::layer_volumes(c);
+    let d = draw_off::event::draw_events(c, &vol, feed, events, volumes, temps, no_totals());
+    if d.number != 0 {
+        return refused(d.number);
+    }
+    let totals = d.totals;
+    let average = average_of(c.layers, temps, totals);
+    let mut charged = [0.0; MAX_LAYERS];
+    let h = crate::turns::heat_turns(
+        c, &vol, n, heaters, thermostats, present, points, temps, &mut charged, on, figures, flags, rounds,
+    );
+    if h.number != 0 {
+        return refused(h.number);
+    }
+    let recoverable = h.losses * 0.75;
+    if !are_both_finite(average, recoverable) {
+        return refused(10);
+    }
+    WorkAnswer {
+        number: 0,
+        totals,
+        average,
+        recoverable,
+    }
+}
+
 // The tank with the layers and flags that the step left, and its report.
 fn accepted(
     t: StorageTank,
     temps: [f64; MAX_LAYERS],
-    totals: Totals,
-    average: f64,
-    recoverable: f64,
-    h: Heated,
+    flags: [bool; MAX_HEATERS],
+    w: WorkAnswer,
+    lines: [HeaterLine; MAX_HEATERS],
 ) -> Stepped
-    ensures { λ r. ⌜ r ≡ acceptedStep t temps totals average recoverable h ⌝ }
+    ensures { λ r. ⌜ r ≡ acceptedStep t temps flags w lines ⌝ }
 {
     let mut tank = t;
     tank.temps = temps;
-    let flags = h.flags;
     tank.flags = flags;
-    let lines = h.lines;
+    let totals = w.totals;
     Stepped {
         number: 0,
         tank,
         report: Report {
             energy: totals.energy,
             used: totals.used,
-            average,
-            recoverable,
+            average: w.average,
+            recoverable: w.recoverable,
             lines,
         },
     }
@@ -85,64 +163,42 @@ impl StorageTank {
     pub fn demand_hot_water(self, report: Report, a: Step) -> Stepped
         ensures { λ r. ⌜ r ≡ stepped self report a ⌝ }
     {
-        let n = crate::refusals::step_refusal(self, a);
-        if n != 0 {
-            return Stepped {
-                number: n,
-                tank: self,
-                report,
-            };
-        }
+        let fitted = self.fitted;
+        let heaters = crate::arrays::heaters_of(fitted);
+        let thermostats = crate::arrays::thermostats_of(fitted);
+        let settings = a.settings;
+        let present = crate::arrays::present_of(settings);
+        let points = crate::arrays::set_points_of(settings);
         let c = crate::refusals::cylinder_in(self);
-        let vol = cylinder::layer_volumes(c);
         let mut temps = self.temps;
-        let d = draw_off::event::draw_events(
+        let mut on = self.flags;
+        let mut figures = [0.0; THREE_EACH];
+        let mut flags = [false; MAX_HEATERS];
+        let mut rounds = [0; MAX_HEATERS];
+        let w = work_step(
             c,
-            &vol,
+            self.heaters,
+            &heaters,
+            &thermostats,
             a.feed,
             a.events,
             &a.volumes,
+            a.entries,
+            &present,
+            &points,
             &mut temps,
-            no_totals(),
+            &mut on,
+            &mut figures,
+            &mut flags,
+            &mut rounds,
         );
-        if d.number != 0 {
+        if w.number != 0 {
             return Stepped {
-                number: d.number,
+                number: w.number,
                 tank: self,
                 report,
             };
         }
-        let totals = d.totals;
-        let average = average_of(c.layers, &temps, totals);
-        let mut charged = [0.0; MAX_LAYERS];
-        let fitted = self.fitted;
-        let settings = a.settings;
-        let flags = self.flags;
-        let h = crate::turns::heat_turns(
-            c,
-            &vol,
-            self.heaters,
-            fitted,
-            settings,
-            flags,
-            &mut temps,
-            &mut charged,
-        );
-        if h.number != 0 {
-            return Stepped {
-                number: h.number,
-                tank: self,
-                report,
-            };
-        }
-        let recoverable = h.losses * 0.75;
-        if !are_both_finite(average, recoverable) {
-            return Stepped {
-                number: 10,
-                tank: self,
-                report,
-            };
-        }
-        accepted(self, temps, totals, average, recoverable, h)
+        accepted(self, temps, on, w, crate::arrays::lines_in(figures, flags, rounds))
     }
 }

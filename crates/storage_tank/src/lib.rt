@@ -1,4 +1,5 @@
 // The storage tank: what the calls make and step take and answer. A count may be any number; what is past it in an array is not looked at.
+pub mod arrays;
 pub mod checks;
 pub mod hot_water;
 pub mod make;

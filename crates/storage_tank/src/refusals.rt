@@ -1,7 +1,7 @@
 // What make and a step are refused for before they work: the first of the checks 1 to 8 that does not pass, and 0 where all pass.
 ghost use mathlib.Core.Path.{_≡_};
-ghost use mathlib.Core.Bool.{_&&_};
-ghost use mathlib.Core.List.{[], _∷_};
+ghost use mathlib.Core.Bool.{Bool, _&&_};
+ghost use mathlib.Core.List.{List, [], _∷_};
 ghost use Prim.Native.Nat.{ℕ, _≤_};
 ghost use lib.Dec.{leb, eqb};
 ghost use lib.ListN.{getD};
@@ -9,11 +9,13 @@ ghost use Rattle.numeric.specs.Holds.{holds};
 ghost use Rattle.draw_off.specs.Lent.{maxEvents};
 ghost use Rattle.working_order.specs.Order.{maxHeaters};
 ghost use Rattle.storage_tank.specs.Fixed.{placed, noHeater, fixedOf, fixedIn, stateIn};
+ghost use Rattle.storage_tank.specs.Arrays.{fittedIn, fixedWith, stepWith};
 ghost use Rattle.storage_tank.specs.Checks.{unless, firstRefusal, fairHeater, layersCheck, numbersCheck, temperaturesCheck, feedCheck, pointsCheck, makeRefusal, stepRefusal};
-use crate::Heater;
 use crate::Step;
 use crate::StorageTank;
 use crate::TankDesign;
+use crate::arrays::THREE_EACH;
+use crate::arrays::TWO_EACH;
 use cylinder::Cylinder;
 use draw_off::event::MAX_EVENTS;
 use mixing::limits::MAX_LAYERS;
@@ -64,9 +66,15 @@ fn first_checks(c: Cylinder, heaters: usize) -> u8
 }
 
 // 4 and 5, where the initial temperature, or each stored layer, is finite or not.
-fn last_checks(c: Cylinder, heaters: usize, fitted: [Heater; MAX_HEATERS], temps: bool) -> u8
-    requires { ⌜ heaters ≤ maxHeaters ⌝ }
-    ensures { λ r. ⌜ r ≡ firstRefusal (temperaturesCheck c temps ∷ unless (holds (λ (h : ℕ). fairHeater (placed (getD fitted h noHeater))) heaters 0) 5 ∷ []) ⌝ }
+fn last_checks(
+    c: Cylinder,
+    n: usize,
+    heaters: &[f64; THREE_EACH],
+    thermostats: &[bool; MAX_HEATERS],
+    temps: bool,
+) -> u8
+    requires { ⌜ n ≤ maxHeaters ⌝ }
+    ensures { λ r. ⌜ r ≡ firstRefusal (temperaturesCheck c temps ∷ unless (holds (λ (h : ℕ). fairHeater (placed (getD (fittedIn (now (heaters .entry)) (now (thermostats .entry))) h noHeater))) n 0) 5 ∷ []) ⌝ }
 {
     if !crate::checks::is_not_negative(c.standby) {
         return 4;
@@ -77,31 +85,38 @@ fn last_checks(c: Cylinder, heaters: usize, fitted: [Heater; MAX_HEATERS], temps
     if !temps {
         return 4;
     }
-    if !crate::checks::are_fair_heaters(heaters, fitted) {
+    if !crate::checks::are_fair_heaters(n, heaters, thermostats) {
         return 5;
     }
     0
 }
 
 // 6 to 8.
-fn step_checks(heaters: usize, a: Step) -> u8
-    requires { ⌜ heaters ≤ maxHeaters ⌝ }
-    ensures { λ r. ⌜ r ≡ firstRefusal (unless (leb (a .events) maxEvents && eqb (a .entries) heaters) 6 ∷ feedCheck a ∷ pointsCheck a ∷ []) ⌝ }
+fn step_checks(
+    n: usize,
+    feed: f64,
+    events: usize,
+    volumes: &[f64; MAX_EVENTS],
+    entries: usize,
+    present: &[bool; TWO_EACH],
+    points: &[f64; TWO_EACH],
+) -> u8
+    requires { ⌜ n ≤ maxHeaters ⌝ }
+    ensures { λ r. ⌜ r ≡ firstRefusal (unless (leb events maxEvents && eqb entries n) 6 ∷ feedCheck (stepWith feed events (now (volumes .entry)) entries (now (present .entry)) (now (points .entry))) ∷ pointsCheck (stepWith feed events (now (volumes .entry)) entries (now (present .entry)) (now (points .entry))) ∷ []) ⌝ }
 {
-    if a.events > MAX_EVENTS {
+    if events > MAX_EVENTS {
         return 6;
     }
-    if a.entries != heaters {
+    if entries != n {
         return 6;
     }
-    if !numeric::compare::is_finite(a.feed) {
+    if !numeric::compare::is_finite(feed) {
         return 7;
     }
-    if !crate::checks::are_fair_volumes(a.events, &a.volumes) {
+    if !crate::checks::are_fair_volumes(events, volumes) {
         return 7;
     }
-    let settings = a.settings;
-    if !crate::checks::are_fair_settings(heaters, settings) {
+    if !crate::checks::are_fair_settings(n, present, points) {
         return 8;
     }
     0
@@ -116,26 +131,61 @@ pub fn make_refusal(m: TankDesign) -> u8
         return n;
     }
     let fitted = m.fitted;
-    last_checks(c, m.heaters, fitted, numeric::compare::is_finite(m.initial))
+    let heaters = crate::arrays::heaters_of(fitted);
+    let thermostats = crate::arrays::thermostats_of(fitted);
+    let temps = numeric::compare::is_finite(m.initial);
+    last_checks(c, m.heaters, &heaters, &thermostats, temps)
+}
+
+// Of a tank of n heaters and a step, in lent arrays.
+pub fn lent_refusal(
+    c: Cylinder,
+    n: usize,
+    temps: &[f64; MAX_LAYERS],
+    heaters: &[f64; THREE_EACH],
+    thermostats: &[bool; MAX_HEATERS],
+    feed: f64,
+    events: usize,
+    volumes: &[f64; MAX_EVENTS],
+    entries: usize,
+    present: &[bool; TWO_EACH],
+    points: &[f64; TWO_EACH],
+) -> u8
+    ensures { λ r. ⌜ ((flags : List Bool) → r ≡ stepRefusal (fixedWith c n (now (heaters .entry)) (now (thermostats .entry))) (record { temps = now (temps .entry); flags = flags }) (stepWith feed events (now (volumes .entry)) entries (now (present .entry)) (now (points .entry)))) ⌝ }
+{
+    let k = first_checks(c, n);
+    if k != 0 {
+        return k;
+    }
+    let finite = cylinder::are_finite(c.layers, temps);
+    let l = last_checks(c, n, heaters, thermostats, finite);
+    if l != 0 {
+        return l;
+    }
+    step_checks(n, feed, events, volumes, entries, present, points)
 }
 
 pub fn step_refusal(t: StorageTank, a: Step) -> u8
     ensures { λ r. ⌜ r ≡ stepRefusal (fixedIn t) (stateIn t) a ⌝ }
 {
     let c = cylinder_in(t);
-    let n = first_checks(c, t.heaters);
-    if n != 0 {
-        return n;
-    }
     let fitted = t.fitted;
-    let k = last_checks(
+    let heaters = crate::arrays::heaters_of(fitted);
+    let thermostats = crate::arrays::thermostats_of(fitted);
+    let settings = a.settings;
+    let present = crate::arrays::present_of(settings);
+    let points = crate::arrays::set_points_of(settings);
+    lent_refusal(
         c,
         t.heaters,
-        fitted,
-        cylinder::are_finite(t.layers, &t.temps),
-    );
-    if k != 0 {
-        return k;
-    }
-    step_checks(t.heaters, a)
+        &t.temps,
+        &heaters,
+        &thermostats,
+        a.feed,
+        a.events,
+        &a.volumes,
+        a.entries,
+        &present,
+        &points,
+    )
 }

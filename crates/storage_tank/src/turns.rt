@@ -1,6 +1,7 @@
 // The heaters' turns of a step, in working order, each on the layers left by the one before.
 ghost use mathlib.Core.Path.{_≡_};
-ghost use mathlib.Core.Bool.{false};
+ghost use mathlib.Core.Bool.{Bool, false};
+ghost use mathlib.Core.List.{List};
 ghost use Prim.Native.Nat.{ℕ, _≤_, _<_};
 ghost use lib.ListN.{getD, length, take};
 ghost use Rattle.numeric.specs.Tabulate.{tabulate};
@@ -8,25 +9,25 @@ ghost use Rattle.mixing.specs.Limits.{maxLayers};
 ghost use Rattle.cylinder.specs.Layers.{layerVolumes};
 ghost use Rattle.heating.specs.Turn.{turn};
 ghost use Rattle.working_order.specs.Order.{maxHeaters};
-ghost use Rattle.storage_tank.specs.Fixed.{noHeater, placedHeaters};
+ghost use Rattle.storage_tank.specs.Fixed.{noHeater};
 ghost use Rattle.storage_tank.specs.Order.{workingOrder};
 ghost use Rattle.storage_tank.specs.Work.{zeroLine};
-ghost use Rattle.storage_tank.specs.Lent.{immersion, noTurns, TurnWorked, TurnsWorked};
+ghost use Rattle.storage_tank.specs.Arrays.{fittedIn, settingsIn, HoldsLines, fixedWith};
+ghost use Rattle.storage_tank.specs.Lent.{immersion, noTurns, heatedIn, TurnWorked, TurnsWorked};
 use crate::Heater;
 use crate::HeaterLine;
-use crate::Setting;
+use crate::arrays::THREE_EACH;
+use crate::arrays::TWO_EACH;
 use cylinder::Cylinder;
 use heating::SetPoints;
 use heating::turn::Immersion;
 use mixing::limits::MAX_LAYERS;
 use working_order::MAX_HEATERS;
 
-// Where the turns have come to: the number of 01's refusal or 0, the heaters' losses so far, their flags, and their lines.
-pub struct Heated {
+// Where the turns have come to, besides what they write in lent arrays: the number of 01's refusal or 0, and the heaters' losses so far.
+pub struct TurnsAnswer {
     pub number: u8,
     pub losses: f64,
-    pub flags: [bool; MAX_HEATERS],
-    pub lines: [HeaterLine; MAX_HEATERS],
 }
 
 pub fn zero_line() -> HeaterLine
@@ -42,14 +43,12 @@ pub fn zero_line() -> HeaterLine
 }
 
 // Before the first turn.
-pub fn no_turns(flags: [bool; MAX_HEATERS]) -> Heated
-    ensures { λ r. ⌜ r ≡ noTurns flags ⌝ }
+pub fn no_turns() -> TurnsAnswer
+    ensures { λ r. ⌜ r ≡ noTurns ⌝ }
 {
-    Heated {
+    TurnsAnswer {
         number: 0,
         losses: 0.0,
-        flags,
-        lines: [zero_line(); MAX_HEATERS],
     }
 }
 
@@ -65,34 +64,39 @@ pub fn immersion_of(n: usize, x: Heater) -> Immersion
     }
 }
 
-// The turn of the heater x, given as h, with its set points.
+// The turn of the heater given as h: its flag and its line are written.
 fn heat_turn(
     c: Cylinder,
     vol: &[f64; MAX_LAYERS],
     x: Heater,
     h: usize,
     p: SetPoints,
-    s: Heated,
+    s: TurnsAnswer,
     temps: &mut [f64; MAX_LAYERS],
     charged: &mut [f64; MAX_LAYERS],
-) -> Heated
-    requires { ⌜ (1 ≤ c .layers) × (c .layers ≤ maxLayers) × (h < maxHeaters) ⌝ }
-    ensures { λ r. ⌜ TurnWorked c h (turn c (now (vol .entry)) (immersion (c .layers) x) p (now (temps .entry)) (now (charged .entry)) (getD (s .flags) h false)) s r (now (temps .exit)) (now (charged .exit)) ⌝ }
+    on: &mut [bool; MAX_HEATERS],
+    figures: &mut [f64; THREE_EACH],
+    flags: &mut [bool; MAX_HEATERS],
+    rounds: &mut [usize; MAX_HEATERS],
+) -> TurnsAnswer
+    requires { ⌜ (1 ≤ c .layers) × (c .layers ≤ maxLayers) × (h < maxHeaters) × HoldsLines (now figures) (now flags) (now rounds) ⌝ }
+    ensures { λ r. ⌜ TurnWorked c h (turn c (now (vol .entry)) (immersion (c .layers) x) p (now (temps .entry)) (now (charged .entry)) (getD (now (on .entry)) h false)) (heatedIn s (now (on .entry)) (now (figures .entry)) (now (flags .entry)) (now (rounds .entry))) (heatedIn r (now (on .exit)) (now (figures .exit)) (now (flags .exit)) (now (rounds .exit))) (now (temps .exit)) (now (charged .exit)) × HoldsLines (now (figures .exit)) (now (flags .exit)) (now (rounds .exit)) ⌝ }
 {
     let i = immersion_of(c.layers, x);
-    let u = heating::turn::turn(c, vol, i, p, s.flags[h], temps, charged);
-    let mut r = s;
-    r.number = u.number;
-    r.losses = s.losses + u.losses;
-    r.flags[h] = u.flag;
-    r.lines[h] = HeaterLine {
+    let u = heating::turn::turn(c, vol, i, p, on[h], temps, charged);
+    on[h] = u.flag;
+    let line = HeaterLine {
         flag: u.flag,
         adjusted: u.adjusted,
         supplied: u.supplied,
         losses: u.losses,
         rounds: u.rounds,
     };
-    r
+    crate::arrays::write_line(h, line, figures, flags, rounds);
+    TurnsAnswer {
+        number: u.number,
+        losses: s.losses + u.losses,
+    }
 }
 
 // The heaters' positions, as given.
@@ -109,29 +113,49 @@ pub fn positions_of(fitted: [Heater; MAX_HEATERS]) -> [f64; MAX_HEATERS]
     positions
 }
 
+// The same, from the array that holds them.
+fn positions_in(heaters: &[f64; THREE_EACH]) -> [f64; MAX_HEATERS]
+    ensures { λ r. ⌜ ((thermostats : List Bool) → r ≡ tabulate (λ (h : ℕ). getD (fittedIn (now (heaters .entry)) thermostats) h noHeater .position) maxHeaters 0) ⌝ }
+{
+    [
+        heaters[8],
+        heaters[9],
+        heaters[10],
+        heaters[11],
+        heaters[12],
+        heaters[13],
+        heaters[14],
+        heaters[15],
+    ]
+}
+
 // The turns of n heaters in the order of work, up to the one that ends the step.
 fn heat_in_order(
     c: Cylinder,
     vol: &[f64; MAX_LAYERS],
     n: usize,
-    fitted: [Heater; MAX_HEATERS],
-    settings: [Setting; MAX_HEATERS],
+    heaters: &[f64; THREE_EACH],
+    thermostats: &[bool; MAX_HEATERS],
+    present: &[bool; TWO_EACH],
+    points: &[f64; TWO_EACH],
     order: &[usize; MAX_HEATERS],
-    flags: [bool; MAX_HEATERS],
     temps: &mut [f64; MAX_LAYERS],
     charged: &mut [f64; MAX_LAYERS],
-) -> Heated
-    requires { ⌜ (1 ≤ c .layers) × (c .layers ≤ maxLayers) × (n ≤ maxHeaters) × (now vol ≡ layerVolumes c) × (length (now order) ≡ maxHeaters) × ((k : ℕ) → k < n → getD (now order) k 0 < n) ⌝ }
-    ensures { λ r. ⌜ TurnsWorked c n fitted settings (take n (now (order .entry))) (now (temps .entry)) (now (charged .entry)) flags r (now (temps .exit)) (now (charged .exit)) ⌝ }
+    on: &mut [bool; MAX_HEATERS],
+    figures: &mut [f64; THREE_EACH],
+    flags: &mut [bool; MAX_HEATERS],
+    rounds: &mut [usize; MAX_HEATERS],
+) -> TurnsAnswer
+    requires { ⌜ (1 ≤ c .layers) × (c .layers ≤ maxLayers) × (n ≤ maxHeaters) × (now vol ≡ layerVolumes c) × (length (now order) ≡ maxHeaters) × ((k : ℕ) → k < n → getD (now order) k 0 < n) × HoldsLines (now figures) (now flags) (now rounds) ⌝ }
+    ensures { λ r. ⌜ TurnsWorked c n (fittedIn (now (heaters .entry)) (now (thermostats .entry))) (settingsIn (now (present .entry)) (now (points .entry))) (take n (now (order .entry))) (now (temps .entry)) (now (charged .entry)) (heatedIn noTurns (now (on .entry)) (now (figures .entry)) (now (flags .entry)) (now (rounds .entry))) (heatedIn r (now (on .exit)) (now (figures .exit)) (now (flags .exit)) (now (rounds .exit))) (now (temps .exit)) (now (charged .exit)) × HoldsLines (now (figures .exit)) (now (flags .exit)) (now (rounds .exit)) ⌝ }
 {
-    let mut s = no_turns(flags);
+    let mut s = no_turns();
     let mut k = 0;
     while k < n {
         let h = order[k];
-        let x = fitted[h];
-        let e = settings[h];
-        let p = e.points;
-        s = heat_turn(c, vol, x, h, p, s, temps, charged);
+        let x = crate::arrays::heater_at(heaters, thermostats, h);
+        let p = crate::arrays::points_at(present, points, h);
+        s = heat_turn(c, vol, x, h, p, s, temps, charged, on, figures, flags, rounds);
         if s.number != 0 {
             return s;
         }
@@ -140,20 +164,28 @@ fn heat_in_order(
     s
 }
 
+// `on` holds the heaters' flags; `figures`, `flags` and `rounds` take the report's lines.
 pub fn heat_turns(
     c: Cylinder,
     vol: &[f64; MAX_LAYERS],
     n: usize,
-    fitted: [Heater; MAX_HEATERS],
-    settings: [Setting; MAX_HEATERS],
-    flags: [bool; MAX_HEATERS],
+    heaters: &[f64; THREE_EACH],
+    thermostats: &[bool; MAX_HEATERS],
+    present: &[bool; TWO_EACH],
+    points: &[f64; TWO_EACH],
     temps: &mut [f64; MAX_LAYERS],
     charged: &mut [f64; MAX_LAYERS],
-) -> Heated
-    requires { ⌜ (1 ≤ c .layers) × (c .layers ≤ maxLayers) × (n ≤ maxHeaters) × (now vol ≡ layerVolumes c) ⌝ }
-    ensures { λ r. ⌜ TurnsWorked c n fitted settings (workingOrder (record { cylinder = c; heaters = placedHeaters n fitted })) (now (temps .entry)) (now (charged .entry)) flags r (now (temps .exit)) (now (charged .exit)) ⌝ }
+    on: &mut [bool; MAX_HEATERS],
+    figures: &mut [f64; THREE_EACH],
+    flags: &mut [bool; MAX_HEATERS],
+    rounds: &mut [usize; MAX_HEATERS],
+) -> TurnsAnswer
+    requires { ⌜ (1 ≤ c .layers) × (c .layers ≤ maxLayers) × (n ≤ maxHeaters) × (now vol ≡ layerVolumes c) × HoldsLines (now figures) (now flags) (now rounds) ⌝ }
+    ensures { λ r. ⌜ TurnsWorked c n (fittedIn (now (heaters .entry)) (now (thermostats .entry))) (settingsIn (now (present .entry)) (now (points .entry))) (workingOrder (fixedWith c n (now (heaters .entry)) (now (thermostats .entry)))) (now (temps .entry)) (now (charged .entry)) (heatedIn noTurns (now (on .entry)) (now (figures .entry)) (now (flags .entry)) (now (rounds .entry))) (heatedIn r (now (on .exit)) (now (figures .exit)) (now (flags .exit)) (now (rounds .exit))) (now (temps .exit)) (now (charged .exit)) × HoldsLines (now (figures .exit)) (now (flags .exit)) (now (rounds .exit)) ⌝ }
 {
-    let positions = positions_of(fitted);
+    let positions = positions_in(heaters);
     let order = working_order::working_order(n, &positions);
-    heat_in_order(c, vol, n, fitted, settings, &order, flags, temps, charged)
+    heat_in_order(
+        c, vol, n, heaters, thermostats, present, points, &order, temps, charged, on, figures, flags, rounds,
+    )
 }

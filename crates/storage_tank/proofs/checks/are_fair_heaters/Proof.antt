@@ -1,43 +1,41 @@
 -- `are_fair_heaters` meets its contract. The loop's invariant: each place passed is fair.
 use mathlib.Core.Path.{sym, _∙_}
 use mathlib.Core.Bool.{Bool}
-use Prim.Native.Nat.{ℕ, _-_}
 use mathlib.Core.List.{List}
+use Prim.Native.Nat.{ℕ, _-_}
 use lib.ListN.{getD}
+use lib.Ieee.{Float}
 use borrow.Author.Tests.{not-true, not-false}
 use Rattle.numeric.specs.Holds.{Passed, passed-start, passed-turn, passed-fails, passed-end}
-use Rattle.storage_tank.specs.declared.Heater.{Heater}
 use Rattle.storage_tank.specs.Fixed.{placed, noHeater}
 use Rattle.storage_tank.specs.Checks.{fairHeater}
+use Rattle.storage_tank.specs.Arrays.{fittedIn}
 use borrow.Author.Needs.{needs}
 use Rattle.storage_tank.proofs.checks.are_fair_heaters.Statement.{statement}
 use Rattle.storage_tank.proofs.checks.are_fair_heaters.Tie as tie
 
-abbrev fairAt : List Heater → ℕ → Bool
-fairAt fitted h = fairHeater (placed (getD fitted h noHeater))
+abbrev fairAt : List Float → List Bool → ℕ → Bool
+fairAt heaters thermostats h = fairHeater (placed (getD (fittedIn heaters thermostats) h noHeater))
 
 abbrev Inv-loop : tie.InvT-loop
-Inv-loop n fitted h₀ h = Passed (fairAt fitted) n h
+Inv-loop n heaters thermostats h₀ h = Passed (fairAt heaters thermostats) n h
 
 abbrev μ-loop : tie.MeasureT-loop
-μ-loop n fitted h₀ h = n - h
+μ-loop n heaters thermostats h₀ h = n - h
 
 loop-holds : tie.Need-loop-holds Inv-loop μ-loop
 loop-holds c = passed-start _ _
 
-mul-x : tie.Need-mul-x Inv-loop μ-loop
-mul-x c = search needs
-
-array-copy-out-x : tie.Need-array-copy-out-x Inv-loop μ-loop
-array-copy-out-x c = search needs
+heater-at-requires : tie.Need-heater-at-requires Inv-loop μ-loop
+heater-at-requires c κs = search needs
 
 is-fair-heater-requires : tie.Need-is-fair-heater-requires Inv-loop μ-loop
 is-fair-heater-requires c κs = search needs
 
 returns : tie.Need-returns Inv-loop μ-loop
-returns c =
+returns c = 
     let test = c .before .before .before in
-    passed-fails _ _ _ (test .loop-test .taken) (sym (c .before .is-fair-heater .ensures) ∙ not-true _ (c .if1 .taken)) (test .before .loop .inv)
+    passed-fails _ _ _ (test .loop-test .taken) (sym (rw (c .before .before .heater-at .ensures) at (c .before .is-fair-heater .ensures)) ∙ not-true _ (c .if1 .taken)) (test .before .loop .inv)
 
 add-h : tie.Need-add-h Inv-loop μ-loop
 add-h c = search needs
@@ -46,9 +44,9 @@ loop-less : tie.Need-loop-less Inv-loop μ-loop
 loop-less c = search needs
 
 loop-again : tie.Need-loop-again Inv-loop μ-loop
-loop-again c =
+loop-again c = 
     let test = c .before .before .before in
-    passed-turn _ _ _ (test .loop-test .taken) (sym (c .before .is-fair-heater .ensures) ∙ not-false _ (c .if1 .left)) (test .before .loop .inv)
+    passed-turn _ _ _ (test .loop-test .taken) (sym (rw (c .before .before .heater-at .ensures) at (c .before .is-fair-heater .ensures)) ∙ not-false _ (c .if1 .left)) (test .before .loop .inv)
 
 returns-2 : tie.Need-returns-2 Inv-loop μ-loop
 returns-2 c = passed-end _ _ _ (c .loop-test .left) (c .before .loop .inv)
@@ -60,8 +58,7 @@ are-fair-heaters-spec =
     Inv-loop
     μ-loop
     loop-holds
-    mul-x
-    array-copy-out-x
+    heater-at-requires
     is-fair-heater-requires
     returns
     add-h

@@ -31,9 +31,9 @@ are-fair-volumes-requires c κs = search needs
 returns-4 : tie.Need-returns-4
 unfolding firstRefusal
 returns-4 c = rw (
-  le-leb _ _ (c .before .before .before .before .before .before .before .if1 .left),
-  eq-eqb _ _ (c .before .before .before .before .before .before .if2 .left),
-  sym (c .before .before .before .before .before .is-finite .ensures) ∙ not-false _ (c .before .before .before .before .if3 .left),
+  le-leb _ _ (c .before .before .before .before .before .if1 .left),
+  eq-eqb _ _ (c .before .before .before .before .if2 .left),
+  sym (c .before .before .before .is-finite .ensures) ∙ not-false _ (c .before .before .if3 .left),
   sym (c .before .are-fair-volumes .ensures) ∙ not-true _ (c .if4 .taken),
 )
 
@@ -43,22 +43,22 @@ are-fair-settings-requires c κs = search needs
 returns-5 : tie.Need-returns-5
 unfolding firstRefusal
 returns-5 c = rw (
-  le-leb _ _ (c .before .before .before .before .before .before .before .before .before .before .if1 .left),
-  eq-eqb _ _ (c .before .before .before .before .before .before .before .before .before .if2 .left),
-  sym (c .before .before .before .before .before .before .before .before .is-finite .ensures) ∙ not-false _ (c .before .before .before .before .before .before .before .if3 .left),
-  sym (c .before .before .before .before .are-fair-volumes .ensures) ∙ not-false _ (c .before .before .before .if4 .left),
-  c .before .before .before .before .before .before .before .before .before .if2 .left,
+  le-leb _ _ (c .before .before .before .before .before .before .before .if1 .left),
+  eq-eqb _ _ (c .before .before .before .before .before .before .if2 .left),
+  sym (c .before .before .before .before .before .is-finite .ensures) ∙ not-false _ (c .before .before .before .before .if3 .left),
+  sym (c .before .before .before .are-fair-volumes .ensures) ∙ not-false _ (c .before .before .if4 .left),
+  c .before .before .before .before .before .before .if2 .left,
   sym (c .before .are-fair-settings .ensures) ∙ not-true _ (c .if5 .taken),
 )
 
 returns-6 : tie.Need-returns-6
 unfolding firstRefusal
 returns-6 c = rw (
-  le-leb _ _ (c .before .before .before .before .before .before .before .before .before .before .if1 .left),
-  eq-eqb _ _ (c .before .before .before .before .before .before .before .before .before .if2 .left),
-  sym (c .before .before .before .before .before .before .before .before .is-finite .ensures) ∙ not-false _ (c .before .before .before .before .before .before .before .if3 .left),
-  sym (c .before .before .before .before .are-fair-volumes .ensures) ∙ not-false _ (c .before .before .before .if4 .left),
-  c .before .before .before .before .before .before .before .before .before .if2 .left,
+  le-leb _ _ (c .before .before .before .before .before .before .before .if1 .left),
+  eq-eqb _ _ (c .before .before .before .before .before .before .if2 .left),
+  sym (c .before .before .before .before .before .is-finite .ensures) ∙ not-false _ (c .before .before .before .before .if3 .left),
+  sym (c .before .before .before .are-fair-volumes .ensures) ∙ not-false _ (c .before .before .if4 .left),
+  c .before .before .before .before .before .before .if2 .left,
   sym (c .before .are-fair-settings .ensures) ∙ not-false _ (c .if5 .left),
 )
 

@@ -1,6 +1,7 @@
--- `step_refusal` meets its contract: what its three parts decide, in order.
-use mathlib.Core.Path.{sym, _∙_}
-use Rattle.storage_tank.proofs.FirstRefusal.{counts-pass, step-first, step-middle, step-last}
+-- `step_refusal` meets its contract: the arrays hold the tank and the step.
+use mathlib.Core.Path.{_∙_}
+use Rattle.storage_tank.proofs.FirstRefusal.{refusal-for}
+use Rattle.storage_tank.proofs.LentArrays.{tank-back, step-back}
 use borrow.Author.Needs.{needs}
 use Rattle.storage_tank.proofs.refusals.step_refusal.Statement.{statement}
 use Rattle.storage_tank.proofs.refusals.step_refusal.Tie as tie
@@ -8,40 +9,39 @@ use Rattle.storage_tank.proofs.refusals.step_refusal.Tie as tie
 cylinder-in-requires : tie.Need-cylinder-in-requires
 cylinder-in-requires c κs = search needs
 
-first-checks-requires : tie.Need-first-checks-requires
-first-checks-requires c κs = search needs
+heaters-of-requires : tie.Need-heaters-of-requires
+heaters-of-requires c κs = search needs
+
+thermostats-of-requires : tie.Need-thermostats-of-requires
+thermostats-of-requires c κs = search needs
+
+present-of-requires : tie.Need-present-of-requires
+present-of-requires c κs = search needs
+
+set-points-of-requires : tie.Need-set-points-of-requires
+set-points-of-requires c κs = search needs
+
+lent-refusal-requires : tie.Need-lent-refusal-requires
+lent-refusal-requires c κs = search needs
 
 returns : tie.Need-returns
-returns c = step-first _ _ _ (rw (c .before .before .cylinder-in .ensures) at (c .before .first-checks .ensures)) (c .if1 .taken)
-
-are-finite-requires : tie.Need-are-finite-requires
-are-finite-requires c κs = rw (c .before .before .before .before .before .cylinder-in .ensures) at (counts-pass (c .before .before .before .before .before .cylinder-in .result) (c .before .before .before .before .before .before .args .t1 .heaters) (sym (c .before .before .before .before .first-checks .ensures) ∙ c .before .before .before .if1 .left) .0)
-
-last-checks-requires : tie.Need-last-checks-requires
-last-checks-requires c κs = counts-pass (c .before .before .before .before .before .before .cylinder-in .result) (c .before .before .before .before .before .before .before .args .t1 .heaters) (sym (c .before .before .before .before .before .first-checks .ensures) ∙ c .before .before .before .before .if1 .left) .2
-
-returns-2 : tie.Need-returns-2
-returns-2 c =
-    let e = c .before .before .before .before .before .before .before .before .cylinder-in .ensures in
-    step-middle _ _ _ _ (rw e at (c .before .before .before .before .before .before .before .first-checks .ensures)) (c .before .before .before .before .before .before .if1 .left) (rw (e, c .before .before .are-finite .ensures) at (c .before .last-checks .ensures)) (c .if2 .taken)
-
-step-checks-requires : tie.Need-step-checks-requires
-step-checks-requires c κs = counts-pass (c .before .before .before .before .before .before .before .before .cylinder-in .result) (c .before .before .before .before .before .before .before .before .before .args .t1 .heaters) (sym (c .before .before .before .before .before .before .before .first-checks .ensures) ∙ c .before .before .before .before .before .before .if1 .left) .2
-
-returns-3 : tie.Need-returns-3
-returns-3 c =
-    let e = c .before .before .before .before .before .before .before .before .before .cylinder-in .ensures in
-    step-last _ _ _ _ _ (rw e at (c .before .before .before .before .before .before .before .before .first-checks .ensures)) (c .before .before .before .before .before .before .before .if1 .left) (rw (e, c .before .before .before .are-finite .ensures) at (c .before .before .last-checks .ensures)) (c .before .if2 .left) (c .step-checks .ensures)
+returns c = 
+    let t = c .before .before .before .before .before .before .before .before .before .before .before .before .before .before .before .before .args .t1 in
+    let a = c .before .before .before .before .before .before .before .before .before .before .before .before .before .before .before .before .args .t2 in
+    let h = c .before .before .before .before .before .before .before .before .before .before .before .before .before .heaters-of .ensures in
+    let p = c .before .before .before .before .before .before .before .before .before .before .present-of .ensures in
+    let tank = tank-back t _ _ _ (c .before .before .before .before .before .before .before .before .before .before .before .before .before .before .before .cylinder-in .ensures) (h .0) (c .before .before .before .before .before .before .before .before .before .before .before .before .thermostats-of .ensures) (h .1) in
+    let step = step-back a _ _ (p .0) (c .before .before .before .before .before .before .before .before .before .set-points-of .ensures) (p .1) in
+    c .lent-refusal .ensures (t .flags) ∙ refusal-for _ t _ a tank step
 
 pub step-refusal-spec : {M : Type 1} → statement M
 step-refusal-spec =
     tie.close
     (tie.spec
     cylinder-in-requires
-    first-checks-requires
-    returns
-    are-finite-requires
-    last-checks-requires
-    returns-2
-    step-checks-requires
-    returns-3)
+    heaters-of-requires
+    thermostats-of-requires
+    present-of-requires
+    set-points-of-requires
+    lent-refusal-requires
+    returns)

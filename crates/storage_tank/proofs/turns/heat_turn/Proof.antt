@@ -12,23 +12,20 @@ element-copy-out-turn : tie.Need-element-copy-out-turn
 element-copy-out-turn c = search needs
 
 turn-requires : tie.Need-turn-requires
-turn-requires c κs =
+turn-requires c κs = 
     let n = c .before .before .before .before .args .c .layers in
     rw (c .before .before .before .immersion-of .ensures) (layer-below n (omega arith) (omega arith) _, layer-below n (omega arith) (omega arith) _, omega arith)
 
-element-write-r : tie.Need-element-write-r
-element-write-r c = search needs
+element-write-on : tie.Need-element-write-on
+element-write-on c = search needs
 
-mul-t24 : tie.Need-mul-t24
-mul-t24 c = search needs
-
-element-set-from-r : tie.Need-element-set-from-r
-element-set-from-r c = search needs
+write-line-requires : tie.Need-write-line-requires
+write-line-requires c κs = (search needs, search needs)
 
 returns : tie.Need-returns
-returns c =
-    let w = rw (c .before .before .before .before .before .immersion-of .ensures) at (c .before .turn .ensures) in
-    record { answers = rw (w .answers); leaves = w .leaves; charges = w .charges }
+returns c = 
+    let w = rw (c .before .before .before .before .before .before .before .before .before .before .immersion-of .ensures) at (c .before .before .before .before .before .before .turn .ensures) in
+    (record { answers = rw (c .before .before .write-line .ensures .0, w .answers); leaves = w .leaves; charges = w .charges }, c .before .before .write-line .ensures .1)
 
 pub heat-turn-spec : {M : Type 1} → statement M
 heat-turn-spec =
@@ -37,7 +34,6 @@ heat-turn-spec =
     immersion-of-requires
     element-copy-out-turn
     turn-requires
-    element-write-r
-    mul-t24
-    element-set-from-r
+    element-write-on
+    write-line-requires
     returns)
