@@ -13,10 +13,12 @@ use Rattle.storage_tank.specs.declared.Step.{Step}
 use Rattle.storage_tank.specs.declared.StorageTank.{StorageTank}
 use Rattle.storage_tank.specs.declared.Report.{Report}
 use Rattle.storage_tank.specs.declared.Stepped.{Stepped}
+use Rattle.storage_tank.specs.declared.hot_water.WorkAnswer.{WorkAnswer}
 use Rattle.storage_tank.specs.Fixed.{fixedIn, stateIn}
 use Rattle.storage_tank.specs.Work.{End, refused, done, work}
 use Rattle.storage_tank.specs.Arrays.{fittedIn, heatersOf, thermostatsOf, linesIn, HoldsLines}
 use Rattle.storage_tank.specs.Calls.{answer, stepped}
+use Rattle.storage_tank.specs.Lent.{acceptedStep}
 use Rattle.storage_tank.proofs.Calls.{refused-step}
 use Rattle.storage_tank.proofs.LentArrays.{places}
 use Rattle.shim.specs.Tanks.{tankIn, TankWritten}
@@ -128,3 +130,9 @@ module _ (counts : List ℕ) (numbers temps heaters : List Float) (thermostats f
         tank-held = subst (λ (q : Stepped). TankWritten (q .tank) counts numbers (q .tank .temps) heaters thermostats (q .tank .flags)) (sym e) (stepped-held lentTank lentReport a counts numbers temps heaters thermostats flags (tank-held-as-lent counts numbers temps heaters thermostats flags counts-long numbers-long heaters-long thermostats-long));
         report-held = w;
       })
+
+  -- an accepted step, from what its work answers and leaves
+  pub worked-answered : (a : Step) (w : WorkAnswer) (temps' : List Float) (flags' : List Bool) (totals' figures' : List Float) (lineFlags' : List Bool) (rounds' : List ℕ) → acceptedStep lentTank temps' flags' w (linesIn figures' lineFlags' rounds') ≡ stepped lentTank lentReport a → totals' ≡ w .totals .energy ∷ w .totals .used ∷ w .average ∷ w .recoverable ∷ [] → HoldsLines figures' lineFlags' rounds' → StepAnswered (stepped lentTank lentReport a) 0 counts numbers temps' heaters thermostats flags' totals' figures' lineFlags' rounds'
+  worked-answered a w temps' flags' totals' figures' lineFlags' rounds' e d h =
+      let s = acceptedStep lentTank temps' flags' w (linesIn figures' lineFlags' rounds') in
+      accepted-answered a s totals' figures' lineFlags' rounds' e refl (report-held (s .report) totals' figures' lineFlags' rounds' d refl h)

@@ -150,7 +150,7 @@ pub extern "C" fn huszmago_step(
         ambient: numbers[4],
         timestep: numbers[5],
     };
-    let mut layers = *temps;
+    let mut after = *temps;
     let mut on = *flags;
     let mut x = [0.0; THREE_EACH];
     let mut g = [false; MAX_HEATERS];
@@ -166,7 +166,7 @@ pub extern "C" fn huszmago_step(
         asked[1],
         present,
         points,
-        &mut layers,
+        &mut after,
         &mut on,
         &mut x,
         &mut g,
@@ -175,7 +175,7 @@ pub extern "C" fn huszmago_step(
     if w.number != 0 {
         return w.number;
     }
-    *temps = layers;
+    *temps = after;
     *flags = on;
     *totals = totals_of(w);
     *figures = x;

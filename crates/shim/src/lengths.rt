@@ -14,5 +14,4 @@ pub fn lengths_told(
     rounds: [usize; MAX_HEATERS],
 )
     ensures { λ r. ⌜ (length counts ≡ 2) × (length numbers ≡ 6) × (length heaters ≡ 24) × (length thermostats ≡ 8) × (length totals ≡ 4) × (length figures ≡ 24) × (length flags ≡ 8) × (length rounds ≡ 8) ⌝ }
-{
-}
+{}

@@ -15,14 +15,11 @@ use working_order::MAX_HEATERS;
 
 // A number for each heater, three of them one after the other; and two of them.
 pub const THREE_EACH: usize = 24;
+
 pub const TWO_EACH: usize = 16;
 
 // The heater h: rated powers stand first, then positions, then thermostat positions.
-pub fn heater_at(
-    heaters: &[f64; THREE_EACH],
-    thermostats: &[bool; MAX_HEATERS],
-    h: usize,
-) -> Heater
+pub fn heater_at(heaters: &[f64; THREE_EACH], thermostats: &[bool; MAX_HEATERS], h: usize) -> Heater
     requires { ⌜ h < maxHeaters ⌝ }
     ensures { λ r. ⌜ r ≡ getD (fittedIn (now (heaters .entry)) (now (thermostats .entry))) h noHeater ⌝ }
 {

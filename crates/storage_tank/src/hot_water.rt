@@ -99,7 +99,17 @@ pub fn work_step(
     ensures { λ r. ⌜ StepWorked (tankWith c n (now (temps .entry)) (now (heaters .entry)) (now (thermostats .entry)) (now (on .entry))) (stepWith feed events (now (volumes .entry)) entries (now (present .entry)) (now (points .entry))) r (now (temps .exit)) (now (on .exit)) (linesIn (now (figures .exit)) (now (flags .exit)) (now (rounds .exit))) × (r .number ≡ 0 → HoldsLines (now (figures .exit)) (now (flags .exit)) (now (rounds .exit))) ⌝ }
 {
     let k = crate::refusals::lent_refusal(
-        c, n, temps, heaters, thermostats, feed, events, volumes, entries, present, points,
+        c,
+        n,
+        temps,
+        heaters,
+        thermostats,
+        feed,
+        events,
+        volumes,
+        entries,
+        present,
+        points,
     );
     if k != 0 {
         return refused(k);
@@ -113,7 +123,19 @@ pub fn work_step(
     let average = average_of(c.layers, temps, totals);
     let mut charged = [0.0; MAX_LAYERS];
     let h = crate::turns::heat_turns(
-        c, &vol, n, heaters, thermostats, present, points, temps, &mut charged, on, figures, flags, rounds,
+        c,
+        &vol,
+        n,
+        heaters,
+        thermostats,
+        present,
+        points,
+        temps,
+        &mut charged,
+        on,
+        figures,
+        flags,
+        rounds,
     );
     if h.number != 0 {
         return refused(h.number);
@@ -199,6 +221,12 @@ impl StorageTank {
                 report,
             };
         }
-        accepted(self, temps, on, w, crate::arrays::lines_in(figures, flags, rounds))
+        accepted(
+            self,
+            temps,
+            on,
+            w,
+            crate::arrays::lines_in(figures, flags, rounds),
+        )
     }
 }

@@ -155,7 +155,20 @@ fn heat_in_order(
         let h = order[k];
         let x = crate::arrays::heater_at(heaters, thermostats, h);
         let p = crate::arrays::points_at(present, points, h);
-        s = heat_turn(c, vol, x, h, p, s, temps, charged, on, figures, flags, rounds);
+        s = heat_turn(
+            c,
+            vol,
+            x,
+            h,
+            p,
+            s,
+            temps,
+            charged,
+            on,
+            figures,
+            flags,
+            rounds,
+        );
         if s.number != 0 {
             return s;
         }
@@ -186,6 +199,19 @@ pub fn heat_turns(
     let positions = positions_in(heaters);
     let order = working_order::working_order(n, &positions);
     heat_in_order(
-        c, vol, n, heaters, thermostats, present, points, &order, temps, charged, on, figures, flags, rounds,
+        c,
+        vol,
+        n,
+        heaters,
+        thermostats,
+        present,
+        points,
+        &order,
+        temps,
+        charged,
+        on,
+        figures,
+        flags,
+        rounds,
     )
 }

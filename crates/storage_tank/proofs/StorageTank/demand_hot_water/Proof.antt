@@ -25,7 +25,7 @@ work-step-requires : tie.Need-work-step-requires
 work-step-requires c κs = record { figures-zero = refl; flags-zero = refl; rounds-zero = refl }
 
 returns : tie.Need-returns
-returns c = 
+returns c =
     let i = c .before .before .before .before .before .before .before .before .before .before .before .before .before .before .before .before .before .before .before .before .before .before .before .args in
     let h = c .before .before .before .before .before .before .before .before .before .before .before .before .before .before .before .before .before .before .before .before .before .heaters-of .ensures in
     let p = c .before .before .before .before .before .before .before .before .before .before .before .before .before .before .before .before .before .before .present-of .ensures in
@@ -40,7 +40,7 @@ accepted-requires : tie.Need-accepted-requires
 accepted-requires c κs = search needs
 
 returns-2 : tie.Need-returns-2
-returns-2 c = 
+returns-2 c =
     let i = c .before .before .before .before .before .before .before .before .before .before .before .before .before .before .before .before .before .before .before .before .before .before .before .before .before .args in
     let h = c .before .before .before .before .before .before .before .before .before .before .before .before .before .before .before .before .before .before .before .before .before .before .before .heaters-of .ensures in
     let p = c .before .before .before .before .before .before .before .before .before .before .before .before .before .before .before .before .before .before .before .before .present-of .ensures in

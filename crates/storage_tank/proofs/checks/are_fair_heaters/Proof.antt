@@ -33,7 +33,7 @@ is-fair-heater-requires : tie.Need-is-fair-heater-requires Inv-loop μ-loop
 is-fair-heater-requires c κs = search needs
 
 returns : tie.Need-returns Inv-loop μ-loop
-returns c = 
+returns c =
     let test = c .before .before .before in
     passed-fails _ _ _ (test .loop-test .taken) (sym (rw (c .before .before .heater-at .ensures) at (c .before .is-fair-heater .ensures)) ∙ not-true _ (c .if1 .taken)) (test .before .loop .inv)
 
@@ -44,7 +44,7 @@ loop-less : tie.Need-loop-less Inv-loop μ-loop
 loop-less c = search needs
 
 loop-again : tie.Need-loop-again Inv-loop μ-loop
-loop-again c = 
+loop-again c =
     let test = c .before .before .before in
     passed-turn _ _ _ (test .loop-test .taken) (sym (rw (c .before .before .heater-at .ensures) at (c .before .is-fair-heater .ensures)) ∙ not-false _ (c .if1 .left)) (test .before .loop .inv)
 

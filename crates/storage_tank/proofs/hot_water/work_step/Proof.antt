@@ -17,14 +17,14 @@ refused-requires : tie.Need-refused-requires
 refused-requires c κs = search needs
 
 returns : tie.Need-returns
-returns c = 
+returns c =
     let i = c .before .before .before .before .args in
     let t = tankWith (i .c) (i .n) (i .temps .now) (i .heaters .now) (i .thermostats .now) (i .on .now) in
     let a = stepWith (i .feed) (i .events) (i .volumes .now) (i .entries) (i .present .now) (i .points .now) in
     (refused-worked t a _ _ _ _ _ (c .refused .ensures) (c .before .if1 .taken) (λ r. step-refused t r a _ (c .before .before .lent-refusal .ensures (i .on .now)) (c .before .if1 .taken)), λ z. absurd (c .before .if1 .taken (sym (c .refused .ensures) ∙ z)))
 
 layer-volumes-requires : tie.Need-layer-volumes-requires
-layer-volumes-requires c κs = 
+layer-volumes-requires c κs =
     let i = c .before .before .before .args in
     let t = tankWith (i .c) (i .n) (i .temps .now) (i .heaters .now) (i .thermostats .now) (i .on .now) in
     let a = stepWith (i .feed) (i .events) (i .volumes .now) (i .entries) (i .present .now) (i .points .now) in
@@ -35,7 +35,7 @@ no-totals-requires : tie.Need-no-totals-requires
 no-totals-requires c κs = search needs
 
 draw-events-requires : tie.Need-draw-events-requires
-draw-events-requires c κs = 
+draw-events-requires c κs =
     let i = c .before .before .before .before .before .before .before .args in
     let t = tankWith (i .c) (i .n) (i .temps .now) (i .heaters .now) (i .thermostats .now) (i .on .now) in
     let a = stepWith (i .feed) (i .events) (i .volumes .now) (i .entries) (i .present .now) (i .points .now) in
@@ -47,7 +47,7 @@ refused-requires-2 : tie.Need-refused-requires-2
 refused-requires-2 c κs = search needs
 
 returns-2 : tie.Need-returns-2
-returns-2 c = 
+returns-2 c =
     let i = c .before .before .before .before .before .before .before .before .before .before .before .args in
     let t = tankWith (i .c) (i .n) (i .temps .now) (i .heaters .now) (i .thermostats .now) (i .on .now) in
     let a = stepWith (i .feed) (i .events) (i .volumes .now) (i .entries) (i .present .now) (i .points .now) in
@@ -57,7 +57,7 @@ returns-2 c =
     (refused-worked t a _ _ _ _ _ (c .refused2 .ensures) (c .before .if2 .taken) (λ r. drawn-refused t r a passed _ d drawn (c .before .if2 .taken)), λ z. absurd (c .before .if2 .taken (sym (c .refused2 .ensures) ∙ z)))
 
 average-of-requires : tie.Need-average-of-requires
-average-of-requires c κs = 
+average-of-requires c κs =
     let i = c .before .before .before .before .before .before .before .before .before .before .before .before .args in
     let t = tankWith (i .c) (i .n) (i .temps .now) (i .heaters .now) (i .thermostats .now) (i .on .now) in
     let a = stepWith (i .feed) (i .events) (i .volumes .now) (i .entries) (i .present .now) (i .points .now) in
@@ -66,7 +66,7 @@ average-of-requires c κs =
     (n .0, n .1)
 
 heat-turns-requires : tie.Need-heat-turns-requires
-heat-turns-requires c κs = 
+heat-turns-requires c κs =
     let i = c .before .before .before .before .before .before .before .before .before .before .before .before .before .before .before .before .before .before .before .before .args in
     let t = tankWith (i .c) (i .n) (i .temps .now) (i .heaters .now) (i .thermostats .now) (i .on .now) in
     let a = stepWith (i .feed) (i .events) (i .volumes .now) (i .entries) (i .present .now) (i .points .now) in
@@ -78,7 +78,7 @@ refused-requires-3 : tie.Need-refused-requires-3
 refused-requires-3 c κs = search needs
 
 returns-3 : tie.Need-returns-3
-returns-3 c = 
+returns-3 c =
     let i = c .before .before .before .before .before .before .before .before .before .before .before .before .before .before .before .before .before .before .before .before .before .before .before .before .args in
     let t = tankWith (i .c) (i .n) (i .temps .now) (i .heaters .now) (i .thermostats .now) (i .on .now) in
     let a = stepWith (i .feed) (i .events) (i .volumes .now) (i .entries) (i .present .now) (i .points .now) in
@@ -95,7 +95,7 @@ refused-requires-4 : tie.Need-refused-requires-4
 refused-requires-4 c κs = search needs
 
 returns-4 : tie.Need-returns-4
-returns-4 c = 
+returns-4 c =
     let i = c .before .before .before .before .before .before .before .before .before .before .before .before .before .before .before .before .before .before .before .before .before .before .before .before .before .before .before .args in
     let t = tankWith (i .c) (i .n) (i .temps .now) (i .heaters .now) (i .thermostats .now) (i .on .now) in
     let a = stepWith (i .feed) (i .events) (i .volumes .now) (i .entries) (i .present .now) (i .points .now) in
@@ -106,7 +106,7 @@ returns-4 c =
     (refused-worked t a _ _ _ _ _ (c .refused4 .ensures) (λ e. omega arith) (λ r. close-refused t r a passed _ d drawn (c .before .before .before .before .before .before .before .before .before .before .before .before .before .before .before .before .before .if2 .left) _ (c .before .before .before .before .before .before .before .before .before .before .before .before .before .before .average-of .ensures) _ _ _ (λ s x. start-with _ _ _ _ s x _ _ _ _ _ zeros ∙ c .before .before .before .before .before .before .heat-turns .ensures .0 s x) (c .before .before .before .before .if3 .left) (sym (c .before .before .are-both-finite .ensures) ∙ not-true _ (c .before .if4 .taken))), λ z. let e = sym (c .refused4 .ensures) ∙ z in absurd (omega arith))
 
 returns-5 : tie.Need-returns-5
-returns-5 c = 
+returns-5 c =
     let i = c .before .before .before .before .before .before .before .before .before .before .before .before .before .before .before .before .before .before .before .before .before .before .before .before .before .before .args in
     let t = tankWith (i .c) (i .n) (i .temps .now) (i .heaters .now) (i .thermostats .now) (i .on .now) in
     let a = stepWith (i .feed) (i .events) (i .volumes .now) (i .entries) (i .present .now) (i .points .now) in

@@ -10,7 +10,7 @@ first-checks-requires : tie.Need-first-checks-requires
 first-checks-requires c κs = search needs
 
 returns : tie.Need-returns
-returns c = 
+returns c =
     let a = c .before .before .args in
     λ flags. step-first (tankWith (a .c) (a .n) (a .temps .now) (a .heaters .now) (a .thermostats .now) flags) (stepWith (a .feed) (a .events) (a .volumes .now) (a .entries) (a .present .now) (a .points .now)) _ (c .before .first-checks .ensures) (c .if1 .taken)
 
@@ -21,7 +21,7 @@ last-checks-requires : tie.Need-last-checks-requires
 last-checks-requires c κs = counts-pass (c .before .before .before .args .c) (c .before .before .before .args .n) (sym (c .before .before .first-checks .ensures) ∙ c .before .if1 .left) .2
 
 returns-2 : tie.Need-returns-2
-returns-2 c = 
+returns-2 c =
     let a = c .before .before .before .before .before .args in
     λ flags. step-middle (tankWith (a .c) (a .n) (a .temps .now) (a .heaters .now) (a .thermostats .now) flags) (stepWith (a .feed) (a .events) (a .volumes .now) (a .entries) (a .present .now) (a .points .now)) _ _ (c .before .before .before .before .first-checks .ensures) (c .before .before .before .if1 .left) (rw (c .before .before .are-finite .ensures) at (c .before .last-checks .ensures)) (c .if2 .taken)
 
@@ -29,7 +29,7 @@ step-checks-requires : tie.Need-step-checks-requires
 step-checks-requires c κs = counts-pass (c .before .before .before .before .before .args .c) (c .before .before .before .before .before .args .n) (sym (c .before .before .before .before .first-checks .ensures) ∙ c .before .before .before .if1 .left) .2
 
 returns-3 : tie.Need-returns-3
-returns-3 c = 
+returns-3 c =
     let a = c .before .before .before .before .before .before .args in
     λ flags. step-last (tankWith (a .c) (a .n) (a .temps .now) (a .heaters .now) (a .thermostats .now) flags) (stepWith (a .feed) (a .events) (a .volumes .now) (a .entries) (a .present .now) (a .points .now)) _ _ _ (c .before .before .before .before .before .first-checks .ensures) (c .before .before .before .before .if1 .left) (rw (c .before .before .before .are-finite .ensures) at (c .before .before .last-checks .ensures)) (c .before .if2 .left) (c .step-checks .ensures)
 

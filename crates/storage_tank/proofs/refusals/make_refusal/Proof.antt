@@ -28,7 +28,7 @@ last-checks-requires : tie.Need-last-checks-requires
 last-checks-requires c κs = counts-pass (c .before .before .before .before .before .before .before .before .cylinder-of .result) (c .before .before .before .before .before .before .before .before .before .args .m .heaters) (sym (c .before .before .before .before .before .before .before .first-checks .ensures) ∙ c .before .before .before .before .before .before .if1 .left) .2
 
 returns-2 : tie.Need-returns-2
-returns-2 c = 
+returns-2 c =
     let e = c .before .before .before .before .before .before .before .before .before .cylinder-of .ensures in
     let h = c .before .before .before .before .before .heaters-of .ensures in
     make-last _ _ _ (rw e at (c .before .before .before .before .before .before .before .before .first-checks .ensures)) (c .before .before .before .before .before .before .before .if1 .left) (rw (e, c .before .before .before .is-finite .ensures, h .0, c .before .before .before .before .thermostats-of .ensures, heaters-back _ (h .1)) at (c .last-checks .ensures))

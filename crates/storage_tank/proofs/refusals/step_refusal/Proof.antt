@@ -25,7 +25,7 @@ lent-refusal-requires : tie.Need-lent-refusal-requires
 lent-refusal-requires c κs = search needs
 
 returns : tie.Need-returns
-returns c = 
+returns c =
     let t = c .before .before .before .before .before .before .before .before .before .before .before .before .before .before .before .before .args .t1 in
     let a = c .before .before .before .before .before .before .before .before .before .before .before .before .before .before .before .before .args .t2 in
     let h = c .before .before .before .before .before .before .before .before .before .before .before .before .before .heaters-of .ensures in

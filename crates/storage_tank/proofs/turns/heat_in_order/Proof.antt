@@ -44,12 +44,12 @@ points-at-requires : tie.Need-points-at-requires Inv-loop μ-loop
 points-at-requires c κs = omega (arith, c .before .before .before .before .before .pre .5 (c .before .before .before .loop .k) (c .before .before .loop-test .taken))
 
 heat-turn-requires : tie.Need-heat-turn-requires Inv-loop μ-loop
-heat-turn-requires c κs = 
+heat-turn-requires c κs =
     let h = c .before .before .before .before .before .before .before .before .before .before .before .before .pre .5 (c .before .before .before .before .before .before .before .before .before .before .loop .k) (c .before .before .before .before .before .before .before .before .before .loop-test .taken) in
     (omega arith, omega arith, omega arith, c .before .before .before .before .before .before .before .before .before .before .loop .inv .3)
 
 returns : tie.Need-returns Inv-loop μ-loop
-returns c = 
+returns c =
     let l = c .before .before .before .before .before .before .before .before .before .before .before .before .before .loop in
     let p = c .before .before .before .before .before .before .before .before .before .before .before .before .before .before .before .pre in
     let a = c .before .before .before .before .before .before .before .before .before .before .before .before .before .before .before .args in
@@ -65,7 +65,7 @@ loop-less : tie.Need-loop-less Inv-loop μ-loop
 loop-less c = search needs
 
 loop-again : tie.Need-loop-again Inv-loop μ-loop
-loop-again c = 
+loop-again c =
     let l = c .before .before .before .before .before .before .before .before .before .before .before .before .before .loop in
     let p = c .before .before .before .before .before .before .before .before .before .before .before .before .before .before .before .pre in
     let h = p .5 (l .k) (c .before .before .before .before .before .before .before .before .before .before .before .before .loop-test .taken) in

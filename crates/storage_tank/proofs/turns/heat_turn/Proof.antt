@@ -12,7 +12,7 @@ element-copy-out-turn : tie.Need-element-copy-out-turn
 element-copy-out-turn c = search needs
 
 turn-requires : tie.Need-turn-requires
-turn-requires c κs = 
+turn-requires c κs =
     let n = c .before .before .before .before .args .c .layers in
     rw (c .before .before .before .immersion-of .ensures) (layer-below n (omega arith) (omega arith) _, layer-below n (omega arith) (omega arith) _, omega arith)
 
@@ -23,7 +23,7 @@ write-line-requires : tie.Need-write-line-requires
 write-line-requires c κs = (search needs, search needs)
 
 returns : tie.Need-returns
-returns c = 
+returns c =
     let w = rw (c .before .before .before .before .before .before .before .before .before .before .immersion-of .ensures) at (c .before .before .before .before .before .before .turn .ensures) in
     (record { answers = rw (c .before .before .write-line .ensures .0, w .answers); leaves = w .leaves; charges = w .charges }, c .before .before .write-line .ensures .1)
 

@@ -22,7 +22,7 @@ heat-in-order-requires : tie.Need-heat-in-order-requires
 heat-in-order-requires c κs = (omega arith, omega arith, omega arith, c .before .before .before .before .before .before .before .before .before .before .pre .3, search needs, λ k l. entry _ _ _ (c .before .before .before .before .before .before .before .working-order .ensures) k l .1, c .before .before .before .before .before .before .before .before .before .before .pre .4)
 
 returns : tie.Need-returns
-returns c = 
+returns c =
     let a = c .before .before .before .before .before .before .before .before .before .before .before .args in
     let fitted = fittedIn (a .heaters .now) (a .thermostats .now) in
     let order = order-is (a .c) (a .n) fitted (omega arith) ∙ sym (ap (λ (ps : List Float). risingOrder ps (a .n)) (c .before .before .before .before .before .before .before .before .before .before .positions-in .ensures (a .thermostats .now))) ∙ sym (c .before .before .before .before .before .before .before .before .working-order .ensures) in
