@@ -4,3 +4,4 @@ pub mod Draw
 pub mod Refill
 pub mod Event
 pub mod Lent
+pub mod Run
