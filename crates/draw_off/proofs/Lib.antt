@@ -5,4 +5,5 @@ pub mod NoDraw
 pub mod Numbers
 pub mod Refilling
 pub mod Run
+pub mod Untouched
 pub mod Worked

@@ -5,3 +5,4 @@ pub mod Refill
 pub mod Event
 pub mod Lent
 pub mod Run
+pub mod Kept
