@@ -134,7 +134,7 @@ fn does_repeat(full: f64, held: f64) -> bool
     is_same(full - lack, held)
 }
 
-// Layers that repeat, from the layer below n down, each over a full one. Their volumes are worked once, and no layer waits for the one above it.
+// Layers that repeat, from the one under n down, each over a full one. Their volumes are worked once, and no layer waits for the one above it.
 fn fill_alike(
     n: usize,
     full: f64,
@@ -161,7 +161,7 @@ fn fill_alike(
     m
 }
 
-// The layers below n that repeat, if the layer under n is one: the answer is how many are left.
+// The run that the layer under n begins, if it repeats: the answer is how many layers are left.
 fn fill_run(
     n: usize,
     vol: &[f64; MAX_LAYERS],
