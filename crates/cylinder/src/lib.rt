@@ -32,14 +32,11 @@ pub fn layer_volumes(c: Cylinder) -> [f64; MAX_LAYERS]
     [v; MAX_LAYERS]
 }
 
-// Below zero or wide-close to 0.
+// Below zero or wide-close to 0: at most the wide tolerance, as 1e-9 of a larger volume is less than that volume.
 pub fn is_no_volume(v: f64) -> bool
     ensures { λ r. ⌜ r ≡ noVolume v ⌝ }
 {
-    if v < 0.0 {
-        return true;
-    }
-    numeric::close::is_wide_close(v, 0.0)
+    v <= 1e-10
 }
 
 pub fn are_finite(n: usize, xs: &[f64; MAX_LAYERS]) -> bool

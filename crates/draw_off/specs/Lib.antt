@@ -4,3 +4,5 @@ pub mod Draw
 pub mod Refill
 pub mod Event
 pub mod Lent
+pub mod Run
+pub mod Kept

@@ -6,6 +6,9 @@ ghost use lib.Ieee.{Float};
 ghost use Rattle.mixing.specs.Limits.{maxLayers};
 ghost use Rattle.draw_off.specs.Draw.{givesAll, share, restAfter, counted, drawShare, drawLayer, drawLayers, drawFeed, extract, volumeUsed};
 ghost use Rattle.draw_off.specs.Lent.{drawOf};
+ghost use Rattle.draw_off.specs.Run.{SameBelow};
+ghost use Rattle.draw_off.specs.Kept.{IsSumOf};
+use crate::kept::KeptSum;
 use cylinder::Cylinder;
 use mixing::limits::MAX_LAYERS;
 
@@ -15,6 +18,8 @@ pub struct Drawn {
     pub energy: f64,
     pub weighted: f64,
     pub drawn: f64,
+    // The layers below this one are as they were.
+    pub untouched: usize,
 }
 
 // A layer smaller than, or narrow-close to, the rest gives all.
@@ -56,6 +61,7 @@ fn count_share(c: Cylinder, v: f64, t: f64, cool: f64, rest: f64, d: Drawn) -> D
         energy: d.energy + c.rho * c.cp * v * (t - cool),
         weighted: d.weighted + v * t,
         drawn: d.drawn + v,
+        untouched: d.untouched,
     }
 }
 
@@ -110,18 +116,18 @@ fn draw_layers(
     start: Drawn,
 ) -> Drawn
     requires { ⌜ c .layers ≤ maxLayers ⌝ }
-    ensures { λ r. ⌜ drawOf (now (held .exit)) r ≡ drawLayers c feed (now (temps .entry)) wanted (c .layers) (drawOf (now (held .entry)) start) ⌝ }
+    ensures { λ r. ⌜ (drawOf (now (held .exit)) r ≡ drawLayers c feed (now (temps .entry)) wanted (c .layers) (drawOf (now (held .entry)) start)) × (r .untouched ≤ c .layers) × SameBelow (r .untouched) (now (held .exit)) (now (held .entry)) ⌝ }
 {
     let mut d = start;
     let mut i = c.layers;
     while 0 < i {
-        i -= 1;
         if cylinder::is_no_volume(d.rest) {
-            return d;
+            return Drawn { untouched: i, ..d };
         }
+        i -= 1;
         d = draw_layer(c, feed, temps, wanted, i, held, d);
     }
-    d
+    Drawn { untouched: 0, ..d }
 }
 
 // A rest above zero, however small, comes from the feed.
@@ -152,26 +158,31 @@ pub fn extract_hot_water(
     held: &mut [f64; MAX_LAYERS],
 ) -> Drawn
     requires { ⌜ c .layers ≤ maxLayers ⌝ }
-    ensures { λ r. ⌜ drawOf (now (held .exit)) r ≡ extract c (now (held .entry)) feed (now (temps .entry)) wanted weighted drawn ⌝ }
+    ensures { λ r. ⌜ (drawOf (now (held .exit)) r ≡ extract c (now (held .entry)) feed (now (temps .entry)) wanted weighted drawn) × (r .untouched ≤ c .layers) × SameBelow (r .untouched) (now (held .exit)) (now (held .entry)) ⌝ }
 {
     let start = Drawn {
         rest: wanted,
         energy: 0.0,
         weighted,
         drawn,
+        untouched: c.layers,
     };
     let d = draw_layers(c, feed, temps, wanted, held, start);
-    draw_feed(c, feed, d)
+    let all = draw_feed(c, feed, d);
+    Drawn {
+        untouched: d.untouched,
+        ..all
+    }
 }
 
-// The tank's volume less Sum2 of what the layers still hold.
-pub fn volume_used(c: Cylinder, held: &[f64; MAX_LAYERS]) -> f64
-    requires { ⌜ c .layers ≤ maxLayers ⌝ }
+// The tank's volume less Sum2 of what the layers still hold; `kept` is that of the first of them.
+pub fn volume_used(c: Cylinder, held: &[f64; MAX_LAYERS], kept: KeptSum) -> f64
+    requires { ⌜ (c .layers ≤ maxLayers) × (kept .layers ≤ c .layers) × IsSumOf (now held) kept ⌝ }
     ensures { λ r. ⌜ r ≡ volumeUsed c (now (held .entry)) ⌝ }
 {
     let n = c.layers;
-    let mut a = numeric::sum2::start();
-    let mut k = 0;
+    let mut a = kept.sum;
+    let mut k = kept.layers;
     while k < n {
         a = numeric::sum2::add_term(a, held[k]);
         k += 1;

@@ -10,7 +10,9 @@ ghost use Rattle.mixing.specs.Mix.{numberOf};
 ghost use Rattle.cylinder.specs.Layers.{layerVolumes};
 ghost use Rattle.draw_off.specs.Event.{EventMixing, eventMixing, mixedTemps, numberAfter, eventFinite, eventOf, drawAll};
 ghost use Rattle.draw_off.specs.Lent.{maxEvents, drawingOf, drawingAfter};
+ghost use Rattle.draw_off.specs.Kept.{IsSumOf};
 use crate::Totals;
+use crate::kept::KeptSum;
 use cylinder::Cylinder;
 use mixing::MixAnswer;
 use mixing::limits::MAX_LAYERS;
@@ -22,6 +24,12 @@ pub const MAX_EVENTS: usize = 64;
 pub struct EventAnswer {
     pub number: u8,
     pub totals: Totals,
+}
+
+// What one event answers, and the sum of the layers that it left full.
+pub struct EventWorked {
+    pub answer: EventAnswer,
+    pub kept: KeptSum,
 }
 
 fn number_of(a: MixAnswer) -> u8
@@ -78,9 +86,10 @@ pub fn draw_event(
     wanted: f64,
     temps: &mut [f64; MAX_LAYERS],
     totals: Totals,
-) -> EventAnswer
-    requires { ⌜ (1 ≤ c .layers) × (c .layers ≤ maxLayers) × (now vol ≡ layerVolumes c) ⌝ }
-    ensures { λ r. ⌜ drawingOf (now (temps .exit)) r ≡ drawingAfter c (eventOf c feed wanted (now (temps .entry)) totals) totals ⌝ }
+    kept: KeptSum,
+) -> EventWorked
+    requires { ⌜ (1 ≤ c .layers) × (c .layers ≤ maxLayers) × (now vol ≡ layerVolumes c) × IsSumOf (now vol) kept ⌝ }
+    ensures { λ r. ⌜ (drawingOf (now (temps .exit)) (r .answer) ≡ drawingAfter c (eventOf c feed wanted (now (temps .entry)) totals) totals) × IsSumOf (now (vol .entry)) (r .kept) ⌝ }
 {
     let n = c.layers;
     let mut held = *vol;
@@ -93,18 +102,20 @@ pub fn draw_event(
         totals.drawn,
         &mut held,
     );
+    let full = crate::kept::keep_sum(kept, d.untouched, vol);
     let after = Totals {
         energy: totals.energy + d.energy,
-        used: totals.used + crate::draw::volume_used(c, &held),
+        used: totals.used + crate::draw::volume_used(c, &held, full),
         weighted: d.weighted,
         drawn: d.drawn,
     };
     let mixes = crate::refill::calc_temps_after_extraction(n, vol, feed, temps, &mut held);
     let number = mix_event(mixes, c, vol, temps);
-    EventAnswer {
+    let answer = EventAnswer {
         number: number_after(number, is_event_finite(c, temps, after)),
         totals: after,
-    }
+    };
+    EventWorked { answer, kept: full }
 }
 
 // The first n of the volumes, one event after the other; a refused event ends them.
@@ -121,14 +132,18 @@ pub fn draw_events(
     ensures { λ r. ⌜ drawingOf (now (temps .exit)) r ≡ drawAll c feed (tabulate (λ (i : ℕ). getD (now (volumes .entry)) i nan) n 0) 0 (now (temps .entry)) totals ⌝ }
 {
     let mut t = totals;
+    let mut kept = crate::kept::sum_of_none();
     let mut k = 0;
     while k < n {
-        let a = draw_event(c, vol, feed, volumes[k], temps, t);
+        let w = draw_event(c, vol, feed, volumes[k], temps, t, kept);
+        let a = w.answer;
         if a.number != 0 {
             return a;
         }
         let next = a.totals;
         t = next;
+        let full = w.kept;
+        kept = full;
         k += 1;
     }
     EventAnswer {

@@ -2,6 +2,7 @@
 pub mod cold;
 pub mod draw;
 pub mod event;
+pub mod kept;
 pub mod refill;
 
 // What a step has drawn so far: the energy withdrawn (kWh), the volume used (litres), the temperatures weighted by volume, and the volume drawn.

@@ -12,7 +12,9 @@ draw-feed-requires c κs = search needs
 
 returns : tie.Need-returns
 unfolding extract
-returns c = rw (← c .before .draw-layers .ensures) (c .draw-feed .ensures _ _ _)
+returns c =
+    let layers = c .before .draw-layers .ensures in
+    (rw (← layers .0) (c .draw-feed .ensures _ _ _), layers .1, layers .2)
 
 pub extract-hot-water-spec : {M : Type 1} → statement M
 extract-hot-water-spec = tie.close (tie.spec draw-layers-requires draw-feed-requires returns)

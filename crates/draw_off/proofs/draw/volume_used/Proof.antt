@@ -2,24 +2,22 @@
 use Prim.Native.Nat.{ℕ, _-_}
 use lib.ListN.{getD}
 use lib.Ieee.{nan}
-use Rattle.numeric.specs.Turns.{Rest, rest-start, rest-turn, rest-end}
+use Rattle.numeric.specs.Turns.{Span, span-start, span-turn, span-end}
 use Rattle.numeric.specs.Sum2.{sumTurn, sum2-turns}
 use Rattle.draw_off.specs.Draw.{volumeUsed}
+use Rattle.draw_off.proofs.Untouched.{sum-finished}
 use borrow.Author.Needs.{needs}
 use Rattle.draw_off.proofs.draw.volume_used.Statement.{statement}
 use Rattle.draw_off.proofs.draw.volume_used.Tie as tie
 
 abbrev Inv-loop : tie.InvT-loop
-Inv-loop c held n a₀ k₀ a k = Rest (sumTurn (λ (j : ℕ). getD held j nan)) n a₀ k a
+Inv-loop c held n a₀ k₀ a k = Span (sumTurn (λ (j : ℕ). getD held j nan)) n k₀ a₀ k a
 
 abbrev μ-loop : tie.MeasureT-loop
 μ-loop c held n a₀ k₀ a k = n - k
 
-start-requires : tie.Need-start-requires Inv-loop μ-loop
-start-requires c κs = search needs
-
 loop-holds : tie.Need-loop-holds Inv-loop μ-loop
-loop-holds c = rest-start _ _ _
+loop-holds c = span-start _ _ _ _ (c .before .pre .1)
 
 mul-add-term : tie.Need-mul-add-term Inv-loop μ-loop
 mul-add-term c = search needs
@@ -37,7 +35,7 @@ loop-less : tie.Need-loop-less Inv-loop μ-loop
 loop-less c = search needs
 
 loop-again : tie.Need-loop-again Inv-loop μ-loop
-loop-again c = rw (c .add-term .ensures) (rest-turn _ _ _ _ _ (c .before .before .loop-test .taken) (c .before .before .before .loop .inv))
+loop-again c = rw (c .add-term .ensures) (span-turn _ _ _ _ _ _ (c .before .before .loop-test .taken) (c .before .before .before .loop .inv))
 
 total-of-requires : tie.Need-total-of-requires Inv-loop μ-loop
 total-of-requires c κs = search needs
@@ -45,8 +43,10 @@ total-of-requires c κs = search needs
 returns : tie.Need-returns Inv-loop μ-loop
 unfolding volumeUsed
 returns c =
-    let at = c .before .before .before in
-    rw (sum2-turns, c .before .total-of .ensures, rest-end _ _ _ _ _ (c .before .before .loop-test .left) (at .loop .inv), at .before .start .ensures)
+    let sum = c .before in
+    let at = sum .before .before in
+    let start = at .before .before in
+    rw (sum2-turns, sum .total-of .ensures, span-end _ _ _ _ _ _ (sum .before .loop-test .left) (at .loop .inv), sum-finished _ (start .args .kept) _ (start .pre .1) (start .pre .2))
 
 pub volume-used-spec : {M : Type 1} → statement M
 volume-used-spec =
@@ -54,7 +54,6 @@ volume-used-spec =
     (tie.spec
     Inv-loop
     μ-loop
-    start-requires
     loop-holds
     mul-add-term
     element-copy-out-add-term

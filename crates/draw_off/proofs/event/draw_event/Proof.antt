@@ -1,4 +1,5 @@
 -- `event::draw_event` meets its contract (01, Draw; Refill; refusals 9 and 10): the draw, the refill, the mixing and the event's number, in the order of the work.
+use Rattle.draw_off.proofs.Untouched.{sum-moved}
 use Rattle.draw_off.proofs.Worked.{event-worked}
 use borrow.Author.Needs.{needs}
 use Rattle.draw_off.proofs.event.draw_event.Statement.{statement}
@@ -7,8 +8,16 @@ use Rattle.draw_off.proofs.event.draw_event.Tie as tie
 extract-hot-water-requires : tie.Need-extract-hot-water-requires
 extract-hot-water-requires c κs = search needs
 
+keep-sum-requires : tie.Need-keep-sum-requires
+keep-sum-requires c κs = search needs
+
 volume-used-requires : tie.Need-volume-used-requires
-volume-used-requires c κs = search needs
+volume-used-requires c κs =
+    let kept = c .before .before .before in
+    let draw = kept .before in
+    let a = draw .before .before .before .before in
+    let left = draw .extract-hot-water .ensures in
+    (a .pre .1, rw (kept .keep-sum .ensures .0) (left .1), sum-moved _ _ _ (left .2) (kept .keep-sum .result) (kept .keep-sum .ensures .0) (kept .keep-sum .ensures .1))
 
 calc-temps-after-extraction-requires : tie.Need-calc-temps-after-extraction-requires
 calc-temps-after-extraction-requires c κs = search needs
@@ -28,24 +37,28 @@ returns c =
     let mixing = finite .before .before in
     let refill = mixing .before .before in
     let used = refill .before .before .before .before in
-    let draw = used .before .before .before .before in
+    let kept = used .before .before .before .before in
+    let draw = kept .before in
     let start = draw .before .before .before .before in
-    let a = start .args in
-    event-worked (a .c) (a .feed) (a .wanted) (a .temps .now) (a .totals) (a .vol .now) _ (draw .extract-hot-water .result) _ _ _ _ _ _ _ _ record {
-      full = start .pre .2;
-      draws = draw .extract-hot-water .ensures;
-      uses = used .volume-used .ensures;
-      fills = refill .calc-temps-after-extraction .ensures;
-      mixing = mixing .mix-event .ensures;
-      tested = finite .is-event-finite .ensures;
-      told = c .number-after .ensures;
-    }
+    let a = start .args in (
+      event-worked (a .c) (a .feed) (a .wanted) (a .temps .now) (a .totals) (a .vol .now) _ (draw .extract-hot-water .result) _ _ _ _ _ _ _ _ record {
+        full = start .pre .2;
+        draws = draw .extract-hot-water .ensures .0;
+        uses = used .volume-used .ensures;
+        fills = refill .calc-temps-after-extraction .ensures;
+        mixing = mixing .mix-event .ensures;
+        tested = finite .is-event-finite .ensures;
+        told = c .number-after .ensures;
+      },
+      kept .keep-sum .ensures .1,
+    )
 
 pub draw-event-spec : {M : Type 1} → statement M
 draw-event-spec =
     tie.close
     (tie.spec
     extract-hot-water-requires
+    keep-sum-requires
     volume-used-requires
     calc-temps-after-extraction-requires
     mix-event-requires

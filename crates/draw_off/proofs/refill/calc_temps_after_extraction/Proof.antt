@@ -1,30 +1,34 @@
--- `refill::calc_temps_after_extraction` meets its contract (01, Refill). The invariants: filling the layers left gives the whole refill; taking from the donors left
--- gives what all of them give.
-use mathlib.Core.Path.{sym, _∙_}
+-- `refill::calc_temps_after_extraction` meets its contract (01, Refill). The invariants: filling the layers left gives the whole refill, and they still have the
+-- temperatures from before the event; taking from the donors left gives what all of them give.
+use mathlib.Core.Path.{refl, sym, _∙_}
 use mathlib.Core.Logic.{⊎-elim}
 use Rattle.numeric.specs.Descent.{Descent, descent-start, descent-turn, descent-stop, descent-end}
-use Rattle.draw_off.specs.Refill.{takeFrom, refillLayer, refill}
+use Rattle.draw_off.specs.Refill.{takeFrom, refill}
 use Rattle.draw_off.specs.Lent.{fillingWith, refillOf}
-use Rattle.draw_off.proofs.Descents.{lackNone, lacksNone, refill-descends}
+use Rattle.draw_off.proofs.Descents.{lackNone, refill-descends}
 use Rattle.draw_off.proofs.Filled.{lack-told, layer-refilled, mixes-now, mixes-still}
+use Rattle.draw_off.proofs.Refilling.{RefillLeft, left-run, left-turn}
 use borrow.Author.Needs.{needs}
 use Rattle.draw_off.proofs.refill.calc_temps_after_extraction.Statement.{statement}
 use Rattle.draw_off.proofs.refill.calc_temps_after_extraction.Tie as tie
 
 abbrev Inv-donors : tie.InvT-donors
-Inv-donors n vol feed temps held₀ initial mixes i f₀ j₀ held f j = Descent lackNone (takeFrom vol feed initial) j₀ (fillingWith held₀ f₀) j (fillingWith held f)
+Inv-donors n vol feed temps held₀ mixes i f₀ j₀ held f j = Descent lackNone (takeFrom vol feed temps) j₀ (fillingWith held₀ f₀) j (fillingWith held f)
 
 abbrev μ-donors : tie.MeasureT-donors
-μ-donors n vol feed temps held₀ initial mixes i f₀ j₀ held f j = j
+μ-donors n vol feed temps held₀ mixes i f₀ j₀ held f j = j
 
 abbrev Inv-filling : tie.InvT-filling
-Inv-filling n vol feed temps₀ held₀ initial mixes₀ i₀ temps held mixes i = Descent (lacksNone vol feed initial) (refillLayer vol feed initial) i₀ (refillOf held₀ temps₀ mixes₀) i (refillOf held temps mixes)
+Inv-filling n vol feed temps₀ held₀ mixes₀ i₀ temps held mixes i = RefillLeft vol feed temps₀ i₀ (refillOf held₀ temps₀ mixes₀) i held temps mixes
 
 abbrev μ-filling : tie.MeasureT-filling
-μ-filling n vol feed temps₀ held₀ initial mixes₀ i₀ temps held mixes i = i
+μ-filling n vol feed temps₀ held₀ mixes₀ i₀ temps held mixes i = i
 
 filling-holds : tie.Need-filling-holds Inv-donors μ-donors Inv-filling μ-filling
-filling-holds c = descent-start _ _ _ _
+filling-holds c = record { descent = descent-start _ _ _ _; same = λ k l. refl }
+
+fill-run-requires : tie.Need-fill-run-requires Inv-donors μ-donors Inv-filling μ-filling
+fill-run-requires c κs = search needs
 
 sub-i : tie.Need-sub-i Inv-donors μ-donors Inv-filling μ-filling
 sub-i c = search needs
@@ -46,9 +50,9 @@ element-copy-out-start-filling-2 c = search needs
 mul-start-filling-3 : tie.Need-mul-start-filling-3 Inv-donors μ-donors Inv-filling μ-filling
 mul-start-filling-3 c = search needs
 
-array-read-start-filling :
-    tie.Need-array-read-start-filling Inv-donors μ-donors Inv-filling μ-filling
-array-read-start-filling c = search needs
+element-copy-out-start-filling-3 :
+    tie.Need-element-copy-out-start-filling-3 Inv-donors μ-donors Inv-filling μ-filling
+element-copy-out-start-filling-3 c = search needs
 
 start-filling-requires : tie.Need-start-filling-requires Inv-donors μ-donors Inv-filling μ-filling
 start-filling-requires c κs = search needs
@@ -76,7 +80,7 @@ donors-again : tie.Need-donors-again Inv-donors μ-donors Inv-filling μ-filling
 donors-again c =
     let none = c .before .before .before in
     let test = none .before .before in
-    let a = test .before .before .before .before .before .before .before .before .before .before .args in
+    let a = test .before .before .before .before .before .before .before .before .before .before .before .before .before .args in
     rw (c .take-from .ensures (a .vol .now) (a .feed)) (descent-turn _ _ _ _ _ _ (test .donors-test .taken) (sym (none .before .is-no-volume2 .ensures) ∙ none .if2 .left) (test .before .donors .inv))
 
 does-enter-warmer-requires :
@@ -109,12 +113,15 @@ filling-again c =
     let donors = warm .before .before in
     let none = donors .before in
     let start = none .before .before in
-    let test = start .before .before .before in
-    let at = test .before in
-    let a = at .before .before .args in
-    let warmer = warm .does-enter-warmer .ensures (a .vol .now) (a .temps .now) (donors .donors .held) in
-    rw
-    (layer-refilled (a .vol .now) (a .feed) (a .temps .now) _ (at .filling .held) (at .filling .temps) (at .filling .mixes) (donors .donors .held) (start .start-filling .result) (donors .donors .f) (fed .take-from-feed .result) _ record {
+    let run = start .before .before .before .before in
+    let test = run .before .before .before in
+    let at = test .before .filling in
+    let a = test .before .before .args in
+    let left = left-run (a .vol .now) (a .feed) (a .temps .now) _ _ _ _ _ _ _ _ _ (at .inv) (run .fill-run .ensures) in
+    let warmer = warm .does-enter-warmer .ensures (a .vol .now) _ (donors .donors .held) in
+    left-turn (a .vol .now) (a .feed) (a .temps .now) _ _ _ _ _ (at .mixes) _ _ _ left (run .fill-run .ensures .left .0)
+    (lack-told _ _ _ (start .start-filling .result) _ _ (start .start-filling .ensures) (none .before .is-no-volume .ensures) (none .if1 .left))
+    (layer-refilled (a .vol .now) (a .feed) _ _ _ _ (at .mixes) (donors .donors .held) (start .start-filling .result) (donors .donors .f) (fed .take-from-feed .result) _ record {
       starts = start .start-filling .ensures;
       donors =
           ⊎-elim
@@ -124,22 +131,24 @@ filling-again c =
       fed = fed .take-from-feed .ensures _ _ _;
       warmer =
           ⊎-elim
-          (λ w. mixes-now (at .filling .mixes) _ _ (sym warmer ∙ w .0 .taken) (w .1))
-          (λ w. mixes-still (at .filling .mixes) _ _ (sym warmer ∙ w .0 .left) (w .1))
+          (λ w. mixes-now (at .mixes) _ _ (sym warmer ∙ w .0 .taken) (w .1))
+          (λ w. mixes-still (at .mixes) _ _ (sym warmer ∙ w .0 .left) (w .1))
           (fed .before .if3 .came);
     })
-    (descent-turn _ _ _ _ _ _ (test .filling-test .taken) (lack-told _ _ _ (start .start-filling .result) _ _ (start .start-filling .ensures) (none .before .is-no-volume .ensures) (none .if1 .left)) (at .filling .inv))
 
 returns : tie.Need-returns Inv-donors μ-donors Inv-filling μ-filling
 unfolding refill
-returns c = rw refill-descends (descent-end _ _ _ _ _ _ (c .filling-test .left) (c .before .filling .inv))
+returns c = rw refill-descends (descent-end _ _ _ _ _ _ (c .filling-test .left) (c .before .filling .inv .descent))
 
 returns-2 : tie.Need-returns-2 Inv-donors μ-donors Inv-filling μ-filling
 unfolding refill
 returns-2 c =
     let start = c .before .before in
-    let test = start .before .before .before in
-    rw refill-descends (descent-stop _ _ _ _ _ _ (test .filling-test .taken) (lack-told _ _ _ (start .start-filling .result) _ _ (start .start-filling .ensures) (c .before .is-no-volume .ensures) (c .if1 .taken)) (test .before .filling .inv))
+    let run = start .before .before .before .before in
+    let test = run .before .before .before in
+    let a = test .before .before .args in
+    let left = left-run (a .vol .now) (a .feed) (a .temps .now) _ _ _ _ _ _ _ _ _ (test .before .filling .inv) (run .fill-run .ensures) in
+    rw refill-descends (descent-stop _ _ _ _ _ _ (run .fill-run .ensures .left .0) (lack-told _ _ _ (start .start-filling .result) _ _ (start .start-filling .ensures) (c .before .is-no-volume .ensures) (c .if1 .taken)) (left .descent))
 
 pub calc-temps-after-extraction-spec : {M : Type 1} → statement M
 calc-temps-after-extraction-spec =
@@ -150,13 +159,14 @@ calc-temps-after-extraction-spec =
     Inv-filling
     μ-filling
     filling-holds
+    fill-run-requires
     sub-i
     mul-start-filling
     element-copy-out-start-filling
     mul-start-filling-2
     element-copy-out-start-filling-2
     mul-start-filling-3
-    array-read-start-filling
+    element-copy-out-start-filling-3
     start-filling-requires
     is-no-volume-requires
     donors-holds

@@ -1,0 +1,52 @@
+-- Proves that the refill may read the temperatures where it writes them (01, Refill): a layer and its donors are read before any of them is written, so what is read
+-- is from before the event.
+use Prim.Native.Nat.{ℕ, zero, suc, _+_, _-_, _<_}
+use native.Mathlib.Omega.{arith}
+use mathlib.Core.Path.{_≡_, refl, _∙_}
+use mathlib.Core.Bool.{Bool, false}
+use mathlib.Core.List.{List}
+use lib.ListN.{set}
+use lib.Seq.{getD-set-other}
+use lib.Ieee.{Float, nan}
+use Rattle.numeric.specs.Descent.{Descent, descent-turn}
+use Rattle.cylinder.specs.Layers.{noVolume}
+use Rattle.draw_off.specs.Refill.{Filling, Refill, takeShare, takeFrom, takeBelow, fromFeed, entersWarmer, lackOf, fillingOf, refillLayer}
+use Rattle.draw_off.specs.Lent.{refillOf}
+use Rattle.draw_off.specs.Run.{SameBelow, FilledDownTo}
+use Rattle.draw_off.proofs.Descents.{lacksNone, refill-descends}
+
+-- a layer is filled alike from temperatures that agree up to it
+module _ (vol : List Float) (feed : Float) (xs ys : List Float) where
+  donors-same : (j : ℕ) (f : Filling) → SameBelow j xs ys → takeBelow vol feed xs j f ≡ takeBelow vol feed ys j f
+  unfolding takeBelow takeFrom takeShare
+  donors-same zero f same = refl
+  donors-same (suc j) f same = rw (same j (omega arith), donors-same j (takeFrom vol feed ys j f) (λ k l. same k (omega arith)))
+
+  layer-same : (i : ℕ) (r : Refill) → SameBelow (i + 1) xs ys → refillLayer vol feed xs i r ≡ refillLayer vol feed ys i r
+  unfolding refillLayer fillingOf fromFeed entersWarmer
+  layer-same i r same = rw (same i (omega arith), donors-same i _ (λ k l. same k (omega arith)))
+
+module _ (vol : List Float) (feed : Float) (before : List Float) (n : ℕ) (start : Refill) where
+  -- where the refill has come to: the layers below i are left, and still have the temperatures from before the event
+  pub record RefillLeft (i : ℕ) (held temps : List Float) (mixes : Bool) : Type 0 where
+    pub descent : Descent (lacksNone vol feed before) (refillLayer vol feed before) n start i (refillOf held temps mixes)
+    pub same : SameBelow i temps before
+
+  -- a run of layers, filled together
+  pub left-run : (i : ℕ) (held temps : List Float) (mixes : Bool) (m : ℕ) (given filled : List Float) → RefillLeft i held temps mixes → FilledDownTo vol i held temps m given filled → RefillLeft m given filled mixes
+  left-run i held temps mixes m given filled l f =
+      let a = f .left .1 in
+      let b = l .descent .0 in
+      record {
+        descent = (omega arith, (rw (refill-descends vol feed before m (refillOf given filled mixes), refill-descends vol feed before i (refillOf held temps mixes)) at (f .refilled feed before mixes (l .same))) ∙ l .descent .1);
+        same = λ k h. f .untouched k h ∙ l .same k (omega arith);
+      }
+
+  -- one layer, filled from the temperatures as they stand
+  pub left-turn : (i : ℕ) (held temps : List Float) (mixes : Bool) (given : List Float) (x : Float) (b : Bool) → RefillLeft i held temps mixes → 0 < i → noVolume (lackOf vol feed before (i - 1) held) ≡ false → refillOf given (set temps (i - 1) x) b ≡ refillLayer vol feed temps (i - 1) (refillOf held temps mixes) → RefillLeft (i - 1) given (set temps (i - 1) x) b
+  left-turn i held temps mixes given x b l h some filled =
+      let w = l .descent .0 in
+      record {
+        descent = rw (filled, layer-same vol feed temps before (i - 1) (refillOf held temps mixes) (λ k u. l .same k (omega arith))) (descent-turn _ _ n start i (refillOf held temps mixes) h some (l .descent));
+        same = λ k u. getD-set-other temps (i - 1) k x nan (λ q. omega arith) ∙ l .same k (omega arith);
+      }
