@@ -11,7 +11,7 @@ use lib.IntN.{ℤ}
 use lib.Ieee.{Float, nan, inf, fin, Format, binary64, prec, emax, low, up, down, odd, units, round, sum, add, sub, neg, lt, le, eq, fits, ofBits}
 use lib.Ieee.Fits.{up-pos, down-pos, neg-fits}
 use lib.Ieee.Scale.{finite}
-use Rattle.numeric.specs.Double.{_⊖_, _⊛_, zero-f, relative-tolerance}
+use Rattle.numeric.specs.Double.{_⊖_, _⊛_, zero-f, relative-tolerance, narrow-tolerance, wide-tolerance}
 use Rattle.numeric.specs.Compare.{maxOf2}
 use Rattle.numeric.specs.Close.{magnitude, infinite, within, close}
 use Rattle.numeric.proofs.Zeros.{isMinusZero, add-not-minus}
@@ -188,3 +188,12 @@ close-pair (fin false m e) (inf true) t p q f z h = absurd (true≢false (sym h)
 close-pair (fin false m e) (inf false) t p q f z h = infinite-pair m e t f
 close-pair (fin false m e) (fin true n g) t p q f z h = absurd (true≢false (sym h))
 close-pair (fin false m e) (fin false n g) t p q f z h = finite-pair m e t n g (ltb-true (m * up e * down g) (n * up g * down e) h) p q
+
+-- the tolerances are finite
+pub narrow-finite : finite narrow-tolerance ≡ true
+unfolding ofBits
+narrow-finite = refl
+
+pub wide-finite : finite wide-tolerance ≡ true
+unfolding ofBits
+wide-finite = refl
