@@ -1,24 +1,28 @@
--- Proves that what a layer loses, and where it ends, depends on that layer alone (01, Losses and limit): so the losses can be worked in place.
-use mathlib.Core.Path.{_≡_}
-use mathlib.Core.Bool.{cond, _&&_}
+-- Proves that what a layer loses, and where it ends, is stated by what stands at that layer alone (01, Losses and limit): so the losses can be worked in place.
+use mathlib.Core.Path.{_≡_, refl}
 use mathlib.Core.List.{List}
 use Prim.Native.Nat.{ℕ}
 use lib.ListN.{getD}
 use lib.Ieee.{Float, nan}
-use Rattle.numeric.specs.Double.{_⊖_, _⊘_}
+use Rattle.numeric.specs.Double.{_⊕_}
 use Rattle.cylinder.specs.declared.Cylinder.{Cylinder}
-use Rattle.cylinder.specs.Layers.{heatCapacity}
 use Rattle.heating.specs.declared.SetPoints.{SetPoints}
-use Rattle.heating.specs.Switch.{upperOf}
-use Rattle.heating.specs.Losses.{clearlyAbove, overUpper, warmed, countedTemp, standingLoss, loss, limitedTemp}
+use Rattle.heating.specs.Losses.{clearlyAbove, warmed, countedTemp, standingLoss, loss, limitedTemp}
+use Rattle.heating.specs.Layer.{layerLoss, layerTemp}
 
 module _ (c : Cylinder) (vol : List Float) (p : SetPoints) (before mixed charged : List Float) (k : ℕ) where
-  -- other layers and other charges that hold the same at k give the same loss there
-  pub loss-local : (temps earlier : List Float) → getD temps k nan ≡ getD mixed k nan → getD earlier k nan ≡ getD charged k nan → loss c vol p before temps earlier k ≡ loss c vol p before mixed charged k
-  unfolding loss standingLoss countedTemp warmed
-  loss-local temps earlier t q = rw (t, q)
+  pub loss-here : layerLoss c p (getD vol k nan) (clearlyAbove (getD mixed k nan) (getD before k nan)) (getD mixed k nan) (getD charged k nan) ≡ loss c vol p before mixed charged k
+  unfolding loss standingLoss countedTemp warmed layerLoss
+  loss-here = refl
 
-  -- where the layer ends, from what it holds and what it loses
-  pub limited-local : (t lost : Float) → t ≡ getD mixed k nan → lost ≡ loss c vol p before mixed charged k → cond (clearlyAbove t (getD before k nan) && overUpper p t) (upperOf p) (t ⊖ lost ⊘ heatCapacity c vol k) ≡ limitedTemp c vol p before mixed charged k (getD mixed k nan)
-  unfolding limitedTemp warmed
-  limited-local t lost e l = rw (e, l)
+  -- t and q are what the layer k and its charge hold, wherever they stand
+  module _ (t q : Float) (e : t ≡ getD mixed k nan) (g : q ≡ getD charged k nan) where
+    pub loss-local : layerLoss c p (getD vol k nan) (clearlyAbove t (getD before k nan)) t q ≡ loss c vol p before mixed charged k
+    loss-local = rw (e, g) loss-here
+
+    pub limited-local : layerTemp c p (getD vol k nan) (clearlyAbove t (getD before k nan)) t q ≡ limitedTemp c vol p before mixed charged k (getD mixed k nan)
+    unfolding limitedTemp warmed layerTemp
+    limited-local = rw (loss-local, e)
+
+    pub charged-local : (lost : Float) → lost ≡ loss c vol p before mixed charged k → q ⊕ lost ≡ getD charged k nan ⊕ loss c vol p before mixed charged k
+    charged-local lost l = rw (g, l)

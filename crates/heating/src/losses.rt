@@ -9,7 +9,8 @@ ghost use Rattle.numeric.specs.Double.{_⊕_, _⊖_, _⊛_, _⊘_, zero-f};
 ghost use Rattle.numeric.specs.Compare.{minOf2};
 ghost use Rattle.mixing.specs.Limits.{maxLayers};
 ghost use Rattle.heating.specs.Switch.{hasUpper, upperOf};
-ghost use Rattle.heating.specs.Losses.{clearlyAbove, overUpper, standbyCoefficient, loss, losses, tempsAfter, chargedAfter, surplusTerm, surplus, adjusted};
+ghost use Rattle.heating.specs.Losses.{clearlyAbove, overUpper, standbyCoefficient, losses, tempsAfter, chargedAfter, surplusTerm, surplus, adjusted};
+ghost use Rattle.heating.specs.Layer.{layerLoss, layerAfter};
 use crate::SetPoints;
 use cylinder::Cylinder;
 use mixing::limits::MAX_LAYERS;
@@ -19,7 +20,7 @@ fn is_clearly_above(t: f64, u: f64) -> bool
     ensures { λ r. ⌜ r ≡ clearlyAbove t u ⌝ }
 {
     if t > u {
-        return !numeric::close::is_wide_close(t, u);
+        return !numeric::close::is_close_above(t, u, numeric::close::WIDE);
     }
     false
 }
@@ -60,23 +61,11 @@ fn standing_loss(c: Cylinder, v: f64, t: f64) -> f64
     (stand_by_losses_coefficient(c) * c.rho * c.cp) * (v / c.volume) * (t - c.ambient) * c.timestep
 }
 
-// The loss of the layer k, less what earlier heaters charged it.
-fn thermal_loss(
-    c: Cylinder,
-    vol: &[f64; MAX_LAYERS],
-    p: SetPoints,
-    before: &[f64; MAX_LAYERS],
-    mixed: &[f64; MAX_LAYERS],
-    charged: &[f64; MAX_LAYERS],
-    k: usize,
-) -> f64
-    requires { ⌜ k < maxLayers ⌝ }
-    ensures { λ r. ⌜ r ≡ loss c (now (vol .entry)) p (now (before .entry)) (now (mixed .entry)) (now (charged .entry)) k ⌝ }
+// The loss of a layer of volume v at t, less what earlier heaters charged it.
+fn thermal_loss(c: Cylinder, v: f64, p: SetPoints, warmed: bool, t: f64, earlier: f64) -> f64
+    ensures { λ r. ⌜ r ≡ layerLoss c p v warmed t earlier ⌝ }
 {
-    let t = mixed[k];
-    let earlier = charged[k];
-    let warmed = is_clearly_above(t, before[k]);
-    let standing = standing_loss(c, vol[k], counted_temp(p, warmed, t));
+    let standing = standing_loss(c, v, counted_temp(p, warmed, t));
     numeric::compare::max_of_2(0.0, standing - earlier)
 }
 
@@ -91,6 +80,30 @@ fn limited_temp(p: SetPoints, warmed: bool, t: f64, lost: f64, capacity: f64) ->
         return t - lost / capacity;
     }
     t - lost / capacity
+}
+
+// What a layer loses, and the temperature at which it ends.
+struct LayerAfter {
+    lost: f64,
+    temp: f64,
+}
+
+fn after_loss(c: Cylinder, v: f64, p: SetPoints, warmed: bool, t: f64, earlier: f64) -> LayerAfter
+    ensures { λ r. ⌜ r ≡ layerAfter c p v warmed t earlier ⌝ }
+{
+    let lost = thermal_loss(c, v, p, warmed, t, earlier);
+    let temp = limited_temp(p, warmed, t, lost, c.rho * c.cp * v);
+    LayerAfter { lost, temp }
+}
+
+// The same of a layer that was at `before` when the turn began. Whether it is warmed is asked once, and most layers are not.
+fn layer_after(c: Cylinder, v: f64, p: SetPoints, before: f64, t: f64, earlier: f64) -> LayerAfter
+    ensures { λ r. ⌜ r ≡ layerAfter c p v (clearlyAbove t before) t earlier ⌝ }
+{
+    if is_clearly_above(t, before) {
+        return after_loss(c, v, p, true, t, earlier);
+    }
+    after_loss(c, v, p, false, t, earlier)
 }
 
 // Heat less loss less heat at the set point, added plainly from the heater's layer up.
@@ -111,7 +124,8 @@ fn sum_surplus(
     let mut s = 0.0;
     let mut k = layer;
     while k < n {
-        let lost = thermal_loss(c, vol, p, before, mixed, charged, k);
+        let warmed = is_clearly_above(mixed[k], before[k]);
+        let lost = thermal_loss(c, vol[k], p, warmed, mixed[k], charged[k]);
         s = s + (c.rho * c.cp * vol[k] * mixed[k] - lost - c.rho * c.cp * vol[k] * upper);
         k += 1;
     }
@@ -164,11 +178,10 @@ fn lose_heat(
     let mut a = numeric::sum2::start();
     let mut k = 0;
     while k < n {
-        let lost = thermal_loss(c, vol, p, before, temps, charged, k);
-        let warmed = is_clearly_above(temps[k], before[k]);
-        a = numeric::sum2::add_term(a, lost);
-        temps[k] = limited_temp(p, warmed, temps[k], lost, c.rho * c.cp * vol[k]);
-        charged[k] = charged[k] + lost;
+        let after = layer_after(c, vol[k], p, before[k], temps[k], charged[k]);
+        a = numeric::sum2::add_term(a, after.lost);
+        temps[k] = after.temp;
+        charged[k] = charged[k] + after.lost;
         k += 1;
     }
     numeric::sum2::total_of(a)

@@ -36,6 +36,9 @@ fn is_at_or_under(t: f64, lower: f64) -> bool
     if t < lower {
         return true;
     }
+    if t > lower {
+        return numeric::close::is_close_above(t, lower, numeric::close::NARROW);
+    }
     numeric::close::is_narrow_close(t, lower)
 }
 
@@ -56,6 +59,9 @@ fn is_reached(t: f64, upper: f64) -> bool
 {
     if t > upper {
         return true;
+    }
+    if t < upper {
+        return numeric::close::is_close_below(t, upper, numeric::close::NARROW);
     }
     numeric::close::is_narrow_close(t, upper)
 }

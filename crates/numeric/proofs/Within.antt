@@ -1,19 +1,19 @@
--- Proves Close's distance of two finite numbers, the lower of them above zero (01, Arithmetic underneath): it is upper - lower, and the larger magnitude is upper.
+-- Proves Close of two numbers above zero (01, Arithmetic underneath): their distance is upper - lower, and the larger magnitude is upper; whichever of them is first.
 use mathlib.Core.Path.{_≡_, refl, sym, ap, _∙_, subst}
 use mathlib.Core.Logic.{⊎-elim}
 use mathlib.Core.Bool.{Bool, true, false, not, cond, _&&_, _||_, true≢false}
 use Prim.Native.Nat.{ℕ, zero, suc, _+_, _-_, _*_, _^_, _<_}
 use native.Mathlib.Nat.{mul-comm, mul-pos, zero-lt-suc, eq-or-lt-of-le}
 use native.Mathlib.Omega.{arith}
-use borrow.Author.Tests.{ltb-true, ltb-false, eqb-false, lt-ltb, le-ltb}
+use borrow.Author.Tests.{ltb-true, ltb-false, eqb-false, ne-eqb, lt-ltb, le-ltb}
 use lib.Dec.{T, ltb, eqb}
 use lib.IntN.{ℤ}
 use lib.Ieee.{Float, nan, inf, fin, Format, binary64, prec, emax, low, up, down, odd, units, round, sum, add, sub, neg, lt, le, eq, fits, ofBits}
 use lib.Ieee.Fits.{up-pos, down-pos, neg-fits}
 use lib.Ieee.Scale.{finite}
-use Rattle.numeric.specs.Double.{_⊖_, _⊛_, zero-f, relative-tolerance}
+use Rattle.numeric.specs.Double.{_⊖_, _⊛_, zero-f, relative-tolerance, narrow-tolerance, wide-tolerance}
 use Rattle.numeric.specs.Compare.{maxOf2}
-use Rattle.numeric.specs.Close.{magnitude, within}
+use Rattle.numeric.specs.Close.{magnitude, infinite, within, close}
 use Rattle.numeric.proofs.Zeros.{isMinusZero, add-not-minus}
 
 -- ---- a rounded fraction with the sign of minus: it is not above zero, and its opposite is the fraction with the sign of plus
@@ -120,3 +120,80 @@ within-above (fin false m e) (fin true n k) t p q f g z h =
     let c : 0 < m * up e * down k = mul-pos b (down-pos k) in
     absurd (omega arith)
 within-above (fin false m e) (fin false n k) t p q f g z h = within-plus m e n k (strictly (m * up e * down k) (n * up k * down e) h) t p q
+
+-- ---- Close of two numbers above zero, either of them first. The upper one may be infinite: so is its distance, and it is close to nothing else.
+minus-magnitude : (x : Float) → Minus x → magnitude (neg x) ≡ neg x
+unfolding magnitude lt neg ofBits
+minus-magnitude nan h = absurd h
+minus-magnitude (inf s) h = rw h refl
+minus-magnitude (fin s m e) h = rw h (plus-magnitude m e)
+
+module _ (m : ℕ) (e : ℤ) (n : ℕ) (g : ℤ) (h : m * up e * down g < n * up g * down e) where
+  distance-back : magnitude (fin false n g ⊖ fin false m e) ≡ fin false n g ⊖ fin false m e
+  distance-back =
+      let minus = minus-round binary64 (difference m e n g h) (down e * down g) in
+      let same = up-difference m e n g h ∙ sym (minus .1) in
+      rw same (minus-magnitude _ (minus .0))
+
+  lower-first : lt (fin false m e) (fin false n g) ≡ true
+  unfolding lt
+  lower-first = lt-ltb (m * up e * down g) (n * up g * down e) h
+
+  within-back : (t : Float) → within (fin false n g) (fin false m e) t ≡ (le (fin false n g ⊖ fin false m e) t || le (fin false n g ⊖ fin false m e) (relative-tolerance ⊛ fin false n g))
+  unfolding within maxOf2
+  within-back t = rw (distance-back, plus-magnitude m e, plus-magnitude n g, lower-first) refl
+
+-- what the code works: the distance is at most t, or at most 1e-9 of an upper number that is not infinite
+abbrev Pair : Float → Float → Float → Bool
+Pair lower upper t = le (upper ⊖ lower) t || (le (upper ⊖ lower) (relative-tolerance ⊛ upper) && not (infinite upper))
+
+and-right : (a : Bool) → ((a && true) ≡ a) × ((a && false) ≡ false)
+and-right true = (refl, refl)
+and-right false = (refl, refl)
+
+module _ (m : ℕ) (e : ℤ) (t : Float) where
+  infinite-distance : T (finite t) → le (inf false ⊖ fin false m e) t ≡ false
+  unfolding sub add neg le
+  infinite-distance f = go t f
+    where
+      go : (x : Float) → T (finite x) → le (inf false) x ≡ false
+      go nan f = absurd f
+      go (inf s) f = absurd f
+      go (fin s n g) f = refl
+
+  infinite-pair : T (finite t) → (Pair (fin false m e) (inf false) t ≡ close (fin false m e) (inf false) t) × (Pair (fin false m e) (inf false) t ≡ close (inf false) (fin false m e) t)
+  unfolding close eq infinite
+  infinite-pair f = rw (infinite-distance f, and-right (le (inf false ⊖ fin false m e) (relative-tolerance ⊛ inf false)) .1) (refl, refl)
+
+  module _ (n : ℕ) (g : ℤ) (h : m * up e * down g < n * up g * down e) where
+    finite-pair : T (fits binary64 (fin false m e)) → T (fits binary64 (fin false n g)) → (Pair (fin false m e) (fin false n g) t ≡ close (fin false m e) (fin false n g) t) × (Pair (fin false m e) (fin false n g) t ≡ close (fin false n g) (fin false m e) t)
+    unfolding close eq infinite
+    finite-pair p q =
+        let far : eqb (m * up e * down g) (n * up g * down e) ≡ false = ne-eqb (m * up e * down g) (n * up g * down e) (λ z. omega arith) in
+        let back : eqb (n * up g * down e) (m * up e * down g) ≡ false = ne-eqb (n * up g * down e) (m * up e * down g) (λ z. omega arith) in
+        rw (far, back, within-plus m e n g h t p q, within-back m e n g h t, and-right (le (fin false n g ⊖ fin false m e) (relative-tolerance ⊛ fin false n g)) .0)
+        (or-swap (le (fin false n g ⊖ fin false m e) t) (le (fin false n g ⊖ fin false m e) (relative-tolerance ⊛ fin false n g)), refl)
+
+-- the law
+pub close-pair : (lower upper t : Float) → T (fits binary64 lower) → T (fits binary64 upper) → T (finite t) → lt zero-f lower ≡ true → lt lower upper ≡ true → (Pair lower upper t ≡ close lower upper t) × (Pair lower upper t ≡ close upper lower t)
+unfolding lt ofBits
+close-pair nan upper t p q f z h = absurd (true≢false (sym z))
+close-pair (inf true) upper t p q f z h = absurd (true≢false (sym z))
+close-pair (inf false) nan t p q f z h = absurd (true≢false (sym h))
+close-pair (inf false) (inf s) t p q f z h = absurd (true≢false (sym h))
+close-pair (inf false) (fin s n g) t p q f z h = absurd (true≢false (sym h))
+close-pair (fin true m e) upper t p q f z h = absurd (true≢false (sym z))
+close-pair (fin false m e) nan t p q f z h = absurd (true≢false (sym h))
+close-pair (fin false m e) (inf true) t p q f z h = absurd (true≢false (sym h))
+close-pair (fin false m e) (inf false) t p q f z h = infinite-pair m e t f
+close-pair (fin false m e) (fin true n g) t p q f z h = absurd (true≢false (sym h))
+close-pair (fin false m e) (fin false n g) t p q f z h = finite-pair m e t n g (ltb-true (m * up e * down g) (n * up g * down e) h) p q
+
+-- the tolerances are finite
+pub narrow-finite : finite narrow-tolerance ≡ true
+unfolding ofBits
+narrow-finite = refl
+
+pub wide-finite : finite wide-tolerance ≡ true
+unfolding ofBits
+wide-finite = refl

@@ -1,10 +1,7 @@
 -- States how a double is cut to a whole number by comparison, and the layer of a position (01, Tank; Forms Rattle lacks).
 -- proofs/Layer.antt shows that this is the whole part of the rounded product, which is what the Rust's cast gives.
 use mathlib.Core.Bool.{cond}
-use mathlib.Core.Path.{_≡_}
-use Prim.Native.Nat.{ℕ, zero, suc, _-_, _<_}
-use native.Mathlib.Numerals.{sub-one}
-use native.Mathlib.Omega.{arith}
+use Prim.Native.Nat.{ℕ, zero, suc}
 use lib.Ieee.{Float, le}
 use Rattle.numeric.specs.Double.{whole, _⊛_}
 
@@ -16,8 +13,3 @@ wholeBelow (suc k) x = cond (le (whole k) x) k (wholeBelow k x)
 -- the layer of a position: position × layers cut to a whole number
 unfoldable pub layerOf : Float → ℕ → ℕ
 layerOf position layers = wholeBelow layers (position ⊛ whole layers)
-
-pub whole-step : (n : ℕ) (x : Float) → 0 < n → wholeBelow n x ≡ cond (le (whole (n - 1)) x) (n - 1) (wholeBelow (n - 1) x)
-unfolding wholeBelow
-whole-step zero x h = absurd (omega arith)
-whole-step (suc n) x h = rw sub-one

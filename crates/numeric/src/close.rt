@@ -1,12 +1,16 @@
 // Close, narrow and wide.
 ghost use mathlib.Core.Path.{_≡_};
 ghost use mathlib.Core.Bool.{true, false};
-ghost use lib.Ieee.{le};
+ghost use lib.Ieee.{lt, le};
 ghost use lib.Ieee.Scale.{finite};
+ghost use Rattle.numeric.specs.Double.{zero-f};
 ghost use Rattle.numeric.specs.Close.{magnitude, infinite, within, close, narrowClose, wideClose};
 
 // The narrow tolerance, 2^-52.
 pub const NARROW: f64 = 2.220446049250313e-16;
+
+// The wide one.
+pub const WIDE: f64 = 1e-10;
 
 pub fn magnitude_of(x: f64) -> f64
     ensures { λ r. ⌜ r ≡ magnitude x ⌝ }
@@ -70,5 +74,40 @@ pub fn is_narrow_close(a: f64, b: f64) -> bool
 pub fn is_wide_close(a: f64, b: f64) -> bool
     ensures { λ r. ⌜ r ≡ wideClose a b ⌝ }
 {
-    is_close(a, b, 1e-10)
+    is_close(a, b, WIDE)
+}
+
+// Close of two numbers above zero, the lower one first. They are their own magnitudes, and the upper one is the larger; its distance from the lower one is
+// infinite where it is.
+fn is_close_pair(lower: f64, upper: f64, e: f64) -> bool
+    ensures { λ r. ⌜ (finite e ≡ true → lt zero-f lower ≡ true → lt lower upper ≡ true → (r ≡ close lower upper e) × (r ≡ close upper lower e)) ⌝ }
+{
+    let distance = upper - lower;
+    if distance <= e {
+        return true;
+    }
+    if distance <= 1e-9 * upper {
+        return !is_infinite(upper);
+    }
+    false
+}
+
+// Close of a number and one above it.
+pub fn is_close_below(lower: f64, upper: f64, e: f64) -> bool
+    ensures { λ r. ⌜ (finite e ≡ true → lt lower upper ≡ true → r ≡ close lower upper e) ⌝ }
+{
+    if lower > 0.0 {
+        return is_close_pair(lower, upper, e);
+    }
+    is_close(lower, upper, e)
+}
+
+// Close of a number and one below it.
+pub fn is_close_above(upper: f64, lower: f64, e: f64) -> bool
+    ensures { λ r. ⌜ (finite e ≡ true → lt lower upper ≡ true → r ≡ close upper lower e) ⌝ }
+{
+    if lower > 0.0 {
+        return is_close_pair(lower, upper, e);
+    }
+    is_close(upper, lower, e)
 }

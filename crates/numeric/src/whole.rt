@@ -12,19 +12,21 @@ pub fn whole_of(n: usize) -> f64
     n as f64
 }
 
-// The largest whole number below n that is at most x, and 0 where there is none.
+// The largest whole number below n that is at most x, and 0 where there is none: looked for from the lowest up. `next` is the double of k + 1.
 pub fn whole_below(n: usize, x: f64) -> usize
     requires { ⌜ n ≤ 9007199254740992 ⌝ }
     ensures { λ r. ⌜ r ≡ wholeBelow n x ⌝ }
 {
-    let mut k = n;
-    while 0 < k {
-        k -= 1;
-        if whole_of(k) <= x {
+    let mut k = 0;
+    let mut next = 1.0;
+    while k + 1 < n {
+        if !(next <= x) {
             return k;
         }
+        k += 1;
+        next = next + 1.0;
     }
-    0
+    k
 }
 
 pub fn layer_of(position: f64, layers: usize) -> usize

@@ -1,19 +1,21 @@
 -- `losses::is_clearly_above` meets its contract.
+use Rattle.numeric.specs.Close.{wideClose}
+use Rattle.numeric.proofs.Within.{wide-finite}
 use Rattle.heating.specs.Losses.{clearlyAbove}
 use borrow.Author.Needs.{needs}
 use Rattle.heating.proofs.losses.is_clearly_above.Statement.{statement}
 use Rattle.heating.proofs.losses.is_clearly_above.Tie as tie
 
-is-wide-close-requires : tie.Need-is-wide-close-requires
-is-wide-close-requires c κs = search needs
+is-close-above-requires : tie.Need-is-close-above-requires
+is-close-above-requires c κs = search needs
 
 returns : tie.Need-returns
-unfolding clearlyAbove
-returns c = rw (c .before .if1 .taken, c .is-wide-close .ensures)
+unfolding clearlyAbove wideClose
+returns c = rw (c .before .if1 .taken, c .is-close-above .ensures wide-finite (c .before .if1 .taken))
 
 returns-2 : tie.Need-returns-2
 unfolding clearlyAbove
 returns-2 c = rw (c .if1 .left)
 
 pub is-clearly-above-spec : {M : Type 1} → statement M
-is-clearly-above-spec = tie.close (tie.spec is-wide-close-requires returns returns-2)
+is-clearly-above-spec = tie.close (tie.spec is-close-above-requires returns returns-2)

@@ -2,14 +2,15 @@
 -- accumulator has the losses below k.
 use Prim.Native.Nat.{ℕ, _-_}
 use native.Mathlib.Nat.{le-refl}
-use mathlib.Core.Path.{_∙_}
+use mathlib.Core.Path.{ap, _∙_}
 use lib.Ieee.{Float}
 use Rattle.numeric.specs.Double.{_⊕_}
 use Rattle.numeric.specs.Turns.{Rest, rest-start, rest-turn, rest-end}
 use Rattle.numeric.specs.InPlace.{Updating, updating-start, updating-turn, updating-end}
 use Rattle.numeric.specs.Sum2.{sumTurn, sum2-turns}
+use Rattle.heating.specs.declared.losses.LayerAfter.{LayerAfter}
 use Rattle.heating.specs.Losses.{loss, losses, limitedTemp, tempsAfter, chargedAfter}
-use Rattle.heating.proofs.Layer.{loss-local, limited-local}
+use Rattle.heating.proofs.Layer.{loss-local, charged-local, limited-local}
 use borrow.Author.Needs.{needs}
 use Rattle.heating.proofs.losses.lose_heat.Statement.{statement}
 use Rattle.heating.proofs.losses.lose_heat.Tie as tie
@@ -29,41 +30,35 @@ start-requires c κs = search needs
 loop-holds : tie.Need-loop-holds Inv-loop μ-loop
 loop-holds c = (updating-start _ _ _, updating-start _ _ _, rest-start _ _ _)
 
-thermal-loss-requires : tie.Need-thermal-loss-requires Inv-loop μ-loop
-thermal-loss-requires c κs = search needs
+mul-layer-after : tie.Need-mul-layer-after Inv-loop μ-loop
+mul-layer-after c = search needs
 
-mul-is-clearly-above : tie.Need-mul-is-clearly-above Inv-loop μ-loop
-mul-is-clearly-above c = search needs
+element-copy-out-layer-after : tie.Need-element-copy-out-layer-after Inv-loop μ-loop
+element-copy-out-layer-after c = search needs
 
-element-copy-out-is-clearly-above : tie.Need-element-copy-out-is-clearly-above Inv-loop μ-loop
-element-copy-out-is-clearly-above c = search needs
+mul-layer-after-2 : tie.Need-mul-layer-after-2 Inv-loop μ-loop
+mul-layer-after-2 c = search needs
 
-mul-is-clearly-above-2 : tie.Need-mul-is-clearly-above-2 Inv-loop μ-loop
-mul-is-clearly-above-2 c = search needs
+element-copy-out-layer-after-2 : tie.Need-element-copy-out-layer-after-2 Inv-loop μ-loop
+element-copy-out-layer-after-2 c = search needs
 
-element-copy-out-is-clearly-above-2 : tie.Need-element-copy-out-is-clearly-above-2 Inv-loop μ-loop
-element-copy-out-is-clearly-above-2 c = search needs
+mul-layer-after-3 : tie.Need-mul-layer-after-3 Inv-loop μ-loop
+mul-layer-after-3 c = search needs
 
-is-clearly-above-requires : tie.Need-is-clearly-above-requires Inv-loop μ-loop
-is-clearly-above-requires c κs = search needs
+element-copy-out-layer-after-3 : tie.Need-element-copy-out-layer-after-3 Inv-loop μ-loop
+element-copy-out-layer-after-3 c = search needs
+
+mul-layer-after-4 : tie.Need-mul-layer-after-4 Inv-loop μ-loop
+mul-layer-after-4 c = search needs
+
+element-copy-out-layer-after-4 : tie.Need-element-copy-out-layer-after-4 Inv-loop μ-loop
+element-copy-out-layer-after-4 c = search needs
+
+layer-after-requires : tie.Need-layer-after-requires Inv-loop μ-loop
+layer-after-requires c κs = search needs
 
 add-term-requires : tie.Need-add-term-requires Inv-loop μ-loop
 add-term-requires c κs = search needs
-
-mul-limited-temp : tie.Need-mul-limited-temp Inv-loop μ-loop
-mul-limited-temp c = search needs
-
-element-copy-out-limited-temp : tie.Need-element-copy-out-limited-temp Inv-loop μ-loop
-element-copy-out-limited-temp c = search needs
-
-mul-limited-temp-2 : tie.Need-mul-limited-temp-2 Inv-loop μ-loop
-mul-limited-temp-2 c = search needs
-
-element-copy-out-limited-temp-2 : tie.Need-element-copy-out-limited-temp-2 Inv-loop μ-loop
-element-copy-out-limited-temp-2 c = search needs
-
-limited-temp-requires : tie.Need-limited-temp-requires Inv-loop μ-loop
-limited-temp-requires c κs = search needs
 
 mul-temps : tie.Need-mul-temps Inv-loop μ-loop
 mul-temps c = search needs
@@ -91,19 +86,18 @@ loop-less c = search needs
 
 loop-again : tie.Need-loop-again Inv-loop μ-loop
 loop-again c =
-    let limited = c .before in
-    let added = limited .before .before .before .before in
-    let warmed = added .before in
-    let lost = warmed .before .before .before in
-    let test = lost .before .before .before in
+    let added = c .before .before in
+    let after = added .before in
+    let test = after .before .before .before .before .before in
     let at = test .before .loop in
     let l = test .loop-test .taken in
     let t = at .inv .0 .untouched (at .k) (le-refl _) in
     let q = at .inv .1 .untouched (at .k) (le-refl _) in
-    let e = lost .thermal-loss .ensures ∙ loss-local _ _ _ _ _ _ _ _ _ t q in (
-      updating-turn _ _ _ _ _ _ l (at .inv .0) (rw (limited .limited-temp .ensures, warmed .is-clearly-above .ensures) (limited-local _ _ _ _ _ _ _ _ _ t e)),
-      updating-turn _ _ _ _ _ _ l (at .inv .1) (rw (q, e)),
-      rw (added .add-term .ensures, e) (rest-turn _ _ _ _ _ l (at .inv .2)),
+    let lost = ap (λ (x : LayerAfter). x .lost) (after .layer-after .ensures) ∙ loss-local _ _ _ _ _ _ _ _ _ t q in
+    let temp = ap (λ (x : LayerAfter). x .temp) (after .layer-after .ensures) ∙ limited-local _ _ _ _ _ _ _ _ _ t q in (
+      updating-turn _ _ _ _ _ _ l (at .inv .0) temp,
+      updating-turn _ _ _ _ _ _ l (at .inv .1) (charged-local _ _ _ _ _ _ _ _ _ t q _ lost),
+      rw (added .add-term .ensures, lost) (rest-turn _ _ _ _ _ l (at .inv .2)),
     )
 
 total-of-requires : tie.Need-total-of-requires Inv-loop μ-loop
@@ -127,18 +121,16 @@ lose-heat-spec =
     μ-loop
     start-requires
     loop-holds
-    thermal-loss-requires
-    mul-is-clearly-above
-    element-copy-out-is-clearly-above
-    mul-is-clearly-above-2
-    element-copy-out-is-clearly-above-2
-    is-clearly-above-requires
+    mul-layer-after
+    element-copy-out-layer-after
+    mul-layer-after-2
+    element-copy-out-layer-after-2
+    mul-layer-after-3
+    element-copy-out-layer-after-3
+    mul-layer-after-4
+    element-copy-out-layer-after-4
+    layer-after-requires
     add-term-requires
-    mul-limited-temp
-    element-copy-out-limited-temp
-    mul-limited-temp-2
-    element-copy-out-limited-temp-2
-    limited-temp-requires
     mul-temps
     element-write-temps
     mul-charged

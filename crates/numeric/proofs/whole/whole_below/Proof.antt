@@ -1,56 +1,48 @@
--- `whole::whole_below` meets its contract (01, Tank). The loop's invariant: the answer below k is the answer below n.
-use mathlib.Core.Path.{_≡_}
-use Prim.Native.Nat.{_≤_}
+-- `whole::whole_below` meets its contract (01, Tank). The loop's invariant: k is 0, or below n and at most x; next is the double of k + 1.
+use mathlib.Core.Path.{_≡_, refl}
+use mathlib.Core.Logic.{inl, inr}
+use Prim.Native.Nat.{_+_, _-_, _≤_}
 use native.Mathlib.Omega.{arith}
-use Rattle.numeric.specs.Whole.{wholeBelow, whole-step}
+use borrow.Author.Tests.{not-true, not-false}
+use Rattle.numeric.specs.Double.{whole}
+use Rattle.numeric.proofs.WholePart.{Found, found-stop, found-end, whole-one, whole-next}
 use borrow.Author.Needs.{needs}
 use Rattle.numeric.proofs.whole.whole_below.Statement.{statement}
 use Rattle.numeric.proofs.whole.whole_below.Tie as tie
 
 abbrev Inv-loop : tie.InvT-loop
-Inv-loop n x k₀ k = (k ≤ n) × (wholeBelow k x ≡ wholeBelow n x)
+Inv-loop n x k₀ next₀ k next = (k ≤ n) × (next ≡ whole (k + 1)) × Found n x k
 
 abbrev μ-loop : tie.MeasureT-loop
-μ-loop n x k₀ k = k
+μ-loop n x k₀ next₀ k next = n - k
 
 loop-holds : tie.Need-loop-holds Inv-loop μ-loop
-loop-holds c = search needs
+loop-holds c = (omega arith, whole-one, inl refl)
 
-sub-k : tie.Need-sub-k Inv-loop μ-loop
-sub-k c = search needs
-
-whole-of-requires : tie.Need-whole-of-requires Inv-loop μ-loop
-whole-of-requires c κs = search needs
+add-loop : tie.Need-add-loop Inv-loop μ-loop
+add-loop c = search needs
 
 returns : tie.Need-returns Inv-loop μ-loop
 returns c =
-    let at = c .before .before .before in
-    rw (whole-step _ _ (c .before .before .loop-test .taken), ← c .before .whole-of .ensures, c .if1 .taken) at (at .loop .inv .1)
+    let at = c .before .before .loop in
+    found-stop _ _ _ (search needs) (c .before .loop-test .taken) (rw (← at .inv .1) (not-true _ (c .if1 .taken))) (at .inv .2)
+
+add-k : tie.Need-add-k Inv-loop μ-loop
+add-k c = search needs
 
 loop-less : tie.Need-loop-less Inv-loop μ-loop
 loop-less c = search needs
 
 loop-again : tie.Need-loop-again Inv-loop μ-loop
 loop-again c =
-    let at = c .before .before .before in
-    (omega arith, rw (whole-step _ _ (c .before .before .loop-test .taken), ← c .before .whole-of .ensures, c .if1 .left) at (at .loop .inv .1))
+    let at = c .before .before .loop in
+    let l = c .before .loop-test .taken in
+    (omega arith, rw (at .inv .1) (whole-next (at .k + 1) (omega arith)), inr (l, rw (← at .inv .1) (not-false _ (c .if1 .left))))
 
 returns-2 : tie.Need-returns-2 Inv-loop μ-loop
-unfolding wholeBelow
-returns-2 c =
-    let e : c .before .loop .k ≡ 0 = omega arith in
-    rw e at (c .before .loop .inv .1)
+returns-2 c = found-end _ _ _ (c .loop-test .left) (c .before .loop .inv .2)
 
 pub whole-below-spec : {M : Type 1} → statement M
 whole-below-spec =
     tie.close
-    (tie.spec
-    Inv-loop
-    μ-loop
-    loop-holds
-    sub-k
-    whole-of-requires
-    returns
-    loop-less
-    loop-again
-    returns-2)
+    (tie.spec Inv-loop μ-loop loop-holds add-loop returns add-k loop-less loop-again returns-2)

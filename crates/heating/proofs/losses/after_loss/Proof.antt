@@ -1,0 +1,18 @@
+-- `losses::after_loss` meets its contract.
+use Rattle.heating.specs.Layer.{layerTemp}
+use borrow.Author.Needs.{needs}
+use Rattle.heating.proofs.losses.after_loss.Statement.{statement}
+use Rattle.heating.proofs.losses.after_loss.Tie as tie
+
+thermal-loss-requires : tie.Need-thermal-loss-requires
+thermal-loss-requires c κs = search needs
+
+limited-temp-requires : tie.Need-limited-temp-requires
+limited-temp-requires c κs = search needs
+
+returns : tie.Need-returns
+unfolding layerTemp
+returns c = rw (c .limited-temp .ensures, c .before .before .thermal-loss .ensures)
+
+pub after-loss-spec : {M : Type 1} → statement M
+after-loss-spec = tie.close (tie.spec thermal-loss-requires limited-temp-requires returns)
