@@ -10,3 +10,5 @@ pub mod Finite
 pub mod SameValue
 pub mod Members
 pub mod Within
+pub mod Sterbenz
+pub mod FastTwoSum

@@ -1,0 +1,52 @@
+-- Proves that a term above zero and at most s may be added to a Sum2 by FastTwoSum (01, Arithmetic underneath): what the sum x loses is b - (x - s), since
+-- x - (x - s) is s by Sterbenz's lemma.
+use mathlib.Core.Path.{_≡_, refl, sym, ap, _∙_}
+use mathlib.Core.Bool.{true, false, not, true≢false}
+use Prim.Native.Nat.{zero, suc, _*_}
+use native.Mathlib.Nat.{zero-lt-suc}
+use native.Mathlib.Omega.{arith}
+use borrow.Author.Tests.{ltb-true}
+use lib.Dec.{T, lt→ltb}
+use lib.Ieee.{Float, nan, inf, fin, binary64, up, down, add, sub, neg, lt, le, fits, ofBits}
+use lib.Ieee.Fits.{add-fits, sub-fits, neg-fits}
+use lib.Ieee.Positive.{positive}
+use lib.Ieee.Scale.{finite}
+use denote.Floats.{passes, is-true}
+use Rattle.numeric.specs.Double.{_⊕_, _⊖_, zero-f}
+use Rattle.numeric.specs.Sum2.{accumulate}
+use Rattle.numeric.specs.declared.sum2.Accumulator.{Accumulator}
+use Rattle.numeric.proofs.Difference.{minus-self}
+use Rattle.numeric.proofs.Zeros.{isMinusZero, zero-plus, add-not-minus}
+use Rattle.numeric.proofs.Finite.{sum-parts-finite}
+use Rattle.numeric.proofs.Sterbenz.{sum-back}
+
+pub above-zero : (b : Float) → lt zero-f b ≡ true → T (finite b) → T (positive b)
+unfolding lt ofBits
+above-zero nan h g = absurd g
+above-zero (inf s) h g = absurd g
+above-zero (fin true m e) h g = absurd (true≢false (sym h))
+above-zero (fin false zero e) h g = let l = ltb-true (0 * 1 * down e) (0 * up e * 1) h in absurd (omega arith)
+above-zero (fin false (suc m) e) h g = lt→ltb 0 (suc m) (zero-lt-suc m)
+
+positive-some : (b : Float) → T (positive b) → T (not (isMinusZero b))
+positive-some nan p = tt
+positive-some (inf s) p = tt
+positive-some (fin true m e) p = absurd p
+positive-some (fin false zero e) p = tt
+positive-some (fin false (suc m) e) p = tt
+
+-- 0 + x is x, unless that is -0
+nothing-plus : (x : Float) → T (fits binary64 x) → T (not (isMinusZero x)) → zero-f ⊕ x ≡ x
+unfolding add ofBits
+nothing-plus nan p h = refl
+nothing-plus (inf s) p h = refl
+nothing-plus (fin s m e) p h = zero-plus binary64 s m e p h
+
+pub fast-two-sum : (a : Accumulator) (b : Float) → T (fits binary64 (a .s)) → T (fits binary64 b) → lt zero-f b ≡ true → le b (a .s) ≡ true → T (finite (a .s ⊕ b)) → record { s = a .s ⊕ b; c = a .c ⊕ (b ⊖ (a .s ⊕ b ⊖ a .s)) } ≡ accumulate a b
+unfolding accumulate
+fast-two-sum a b p q h l g =
+    let parts = sum-parts-finite (a .s) b g in
+    let B = above-zero b h (parts .1) in
+    let y = b ⊖ (a .s ⊕ b ⊖ a .s) in
+    let some : T (not (isMinusZero y)) = unfold sub in add-not-minus binary64 b (neg (a .s ⊕ b ⊖ a .s)) q (neg-fits binary64 (a .s ⊕ b ⊖ a .s) (sub-fits binary64 (a .s ⊕ b) (a .s))) (positive-some b B) in
+    rw (sum-back binary64 (a .s) b B p q (passes _ l) (parts .0) g, minus-self (a .s) (is-true (finite (a .s)) (parts .0)), nothing-plus y (sub-fits binary64 b (a .s ⊕ b ⊖ a .s)) some) refl
