@@ -60,12 +60,15 @@ module _ (f : Format) where
   pub units-of : (m : ℕ) (e : ℤ) → T (fits f (fin false (suc m) e)) → (n : ℕ) × (0 < n) × Units (fin false (suc m) e) n
   units-of m e h =
       let bounds = fits-bounds f false m e h in
-      let w = in-units (low f) e (bounds .1) in
-      (suc m * 2 ^ (w .0), mul-pos (zero-lt-suc m) (pow-pos (w .0)), record {
-        value = (refl, w .1 (suc m));
-        short = (suc m, w .0, refl, bounds .0);
-        under = in-range (suc m) (up e) (down e) (low f) (suc (emax f)) (w .0) (down-pos e) (bounds .2) (w .1 (suc m));
-      })
+      let w = in-units (low f) e (bounds .1) in (
+        suc m * 2 ^ (w .0),
+        mul-pos (zero-lt-suc m) (pow-pos (w .0)),
+        record {
+          value = (refl, w .1 (suc m));
+          short = (suc m, w .0, refl, bounds .0);
+          under = in-range (suc m) (up e) (down e) (low f) (suc (emax f)) (w .0) (down-pos e) (bounds .2) (w .1 (suc m));
+        },
+      )
 
   -- a number of units that a float may have is not rounded
   rounds-to : (n : ℕ) → Short (2 ^ prec f) n → n < top → HasValue (round f false n unit) false n unit
@@ -168,3 +171,10 @@ module _ (f : Format) where
       let v = units-at (add f a b) x-positive (add-fits f a b) in
       back-again (add f a b) a (v .0) (u .0) (v .2) (u .2) fa (ordered a (add f a b) (u .0) (v .0) a-positive x-positive (u .2 .value) (v .2 .value) less)
       (no-more a (add f a b) (u .0) (w .0) (v .0) (u .2) (v .2) x-positive is (u .1) (ordered b a (w .0) (u .0) B a-positive (w .2 .value) (u .2 .value) l))
+
+  -- the sum is at least the term
+  pub sum-above : (a b : Float) → T (positive b) → T (fits f a) → T (fits f b) → T (le b a) → T (finite a) → T (le b (add f a b))
+  sum-above a b B fa fb l A =
+      let u = units-at a (above-finite a (above-of-le b a B l) A) fa in
+      let w = units-at b B fb in
+      no-less b (add f a b) (w .0) (u .0) (w .2) fb (total a b (u .0) (w .0) (u .2 .value) (w .2 .value) ∙ ap (λ (n : ℕ). round f false n unit) (omega arith))
