@@ -8,7 +8,7 @@ ghost use Prim.Native.Nat.{ℕ, _+_, _-_, _≤_, _<_};
 ghost use lib.ListN.{getD};
 ghost use lib.Ieee.{Float, nan, le, eq};
 ghost use lib.Ieee.Scale.{finite};
-ghost use Rattle.numeric.specs.Double.{_⊕_, _⊛_, _⊘_, zero-f};
+ghost use Rattle.numeric.specs.Double.{_⊕_, _⊛_, _⊘_, zero-f, one-f};
 ghost use Rattle.numeric.specs.Zeros.{SameValue};
 ghost use Rattle.numeric.specs.Turns.{turns};
 ghost use Rattle.numeric.specs.Sum2.{nothing-added, accumulate, sumTurn};
@@ -127,16 +127,21 @@ fn joined(
     }
 }
 
-// The layer i + 1, of volume v and temperature `next`, joins the group. The heat at the group's new temperature goes on from what is kept where the
-// temperature is what it was; otherwise it is worked anew.
-fn join_any(r: RunningGroup, vol: &[f64; MAX_LAYERS], i: usize, v: f64, next: f64) -> RunningGroup
-    requires { ⌜ (r .bottom ≤ i) × (i + 1 < maxLayers) × (v ≡ getD (now vol) (i + 1) nan) ⌝ }
+// The layer i + 1, of volume v and temperature `next`, joins the group; `volume` is the group's with it. The heat at the group's new temperature goes on from
+// what is kept where the temperature is what it was; otherwise it is worked anew.
+fn join_any(
+    r: RunningGroup,
+    vol: &[f64; MAX_LAYERS],
+    i: usize,
+    v: f64,
+    next: f64,
+    volume: Accumulator,
+) -> RunningGroup
+    requires { ⌜ (r .bottom ≤ i) × (i + 1 < maxLayers) × (v ≡ getD (now vol) (i + 1) nan) × (volume ≡ accumulate (r .volume) (v ⊛ one-f)) ⌝ }
     ensures { λ q. ⌜ (q .bottom ≡ r .bottom) × ((n : ℕ) (first temps : List Float) → i + 1 < n → next ≡ getD temps (i + 1) nan → SaysJoins (r .temp) next true → Follows n (now (vol .entry)) first i temps r → Follows n (now (vol .entry)) first (i + 1) temps q) ⌝ }
 {
     let own = v * next;
     let heat = numeric::sum2::add_term(r.heat, own);
-    // A volume counts times 1, as the definition has it; the compiled code leaves that out.
-    let volume = numeric::sum2::add_term(r.volume, v * 1.0);
     let temp = numeric::sum2::total_of(heat) / numeric::sum2::total_of(volume);
     let met = r.met + heat.s;
     let each = each_with(r.each, v);
@@ -168,12 +173,12 @@ fn join_even(
     v: f64,
     next: f64,
     heat: Accumulator,
+    volume: Accumulator,
 ) -> RunningGroup
-    requires { ⌜ (r .bottom ≤ i) × (i + 1 < maxLayers) × (v ≡ getD (now vol) (i + 1) nan) × (eq v (r .each) ≡ true) × (heat .s ≡ r .heat .s ⊕ (v ⊛ next)) × (finite (heat .s) ≡ true → heat ≡ accumulate (r .heat) (v ⊛ next)) ⌝ }
+    requires { ⌜ (r .bottom ≤ i) × (i + 1 < maxLayers) × (v ≡ getD (now vol) (i + 1) nan) × (volume ≡ accumulate (r .volume) (v ⊛ one-f)) × (eq v (r .each) ≡ true) × (heat .s ≡ r .heat .s ⊕ (v ⊛ next)) × (finite (heat .s) ≡ true → heat ≡ accumulate (r .heat) (v ⊛ next)) ⌝ }
     ensures { λ q. ⌜ (q .bottom ≡ r .bottom) × ((n : ℕ) (first temps : List Float) → i + 1 < n → next ≡ getD temps (i + 1) nan → SaysJoins (r .temp) next true → Follows n (now (vol .entry)) first i temps r → Follows n (now (vol .entry)) first (i + 1) temps q) ⌝ }
 {
     let product = v * r.temp;
-    let volume = numeric::sum2::add_term(r.volume, v * 1.0);
     let temp = numeric::sum2::total_of(heat) / numeric::sum2::total_of(volume);
     let met = r.met + heat.s;
     let p = v * temp;
@@ -205,14 +210,16 @@ fn join(r: RunningGroup, vol: &[f64; MAX_LAYERS], i: usize, v: f64, next: f64) -
 {
     let own = v * next;
     let heat = numeric::sum2::add_smaller(r.heat, own);
+    // A volume counts times 1, as the definition has it; the compiled code leaves that out.
+    let volume = numeric::sum2::add_term(r.volume, v * 1.0);
     if v == r.each {
         if own > 0.0 {
             if own <= r.heat.s {
-                return join_even(r, vol, i, v, next, heat);
+                return join_even(r, vol, i, v, next, heat, volume);
             }
         }
     }
-    join_any(r, vol, i, v, next)
+    join_any(r, vol, i, v, next, volume)
 }
 
 // A group of the one layer i, of volume v.

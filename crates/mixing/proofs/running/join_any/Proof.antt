@@ -29,35 +29,38 @@ differ-nan h = h
 
 -- what is worked before the ways part
 module _ (c : tie.After-total-of2) where
+  abbrev start : tie.Start
+  start = c .before .before .before
+
   abbrev r : RunningGroup
-  r = c .before .before .before .before .args .r
+  r = start .args .r
 
   abbrev vol : List Float
-  vol = c .before .before .before .before .args .vol .now
+  vol = start .args .vol .now
 
   abbrev i : ℕ
-  i = c .before .before .before .before .args .i
+  i = start .args .i
 
   abbrev v : Float
-  v = c .before .before .before .before .args .v
+  v = start .args .v
 
   abbrev next : Float
-  next = c .before .before .before .before .args .next
+  next = start .args .next
 
   abbrev sum : Accumulator
-  sum = c .before .before .before .add-term .result
+  sum = c .before .before .add-term .result
 
   abbrev volume : Accumulator
-  volume = c .before .before .add-term2 .result
+  volume = start .args .volume
 
   abbrev temp : Float
   temp = c .before .total-of .result ⊘ c .total-of2 .result
 
   sum-is : sum ≡ accumulate (r .heat) (v ⊛ next)
-  sum-is = c .before .before .before .add-term .ensures
+  sum-is = c .before .before .add-term .ensures
 
   v-fits : T (fits binary64 v)
-  v-fits = passes _ (c .before .before .before .before .good .1 .1 .1 .0 .1)
+  v-fits = passes _ (start .good .1 .1 .1 .0 .1)
 
   follows : (q : RunningGroup) (heat : Accumulator) (each : Float)
       → q ≡ joinedGroup r temp heat volume each (r .met ⊕ sum .s)
@@ -65,30 +68,27 @@ module _ (c : tie.After-total-of2) where
       → ((n : ℕ) (first temps : List Float) → i + 1 < n → AsDefined n vol first i temps r → EachIs vol (r .bottom) (i + 2) each)
       → (q .bottom ≡ r .bottom) × ((n : ℕ) (first temps : List Float) → i + 1 < n → next ≡ getD temps (i + 1) nan → SaysJoins (r .temp) next true → Follows n vol first i temps r → Follows n vol first (i + 1) temps q)
   follows q heat each e h m =
-      let pre = c .before .before .before .before .pre in
+      let pre = start .pre in
       let temp-is = quotient-of _ _ _ _ _ (c .before .total-of .ensures) (c .total-of2 .ensures) sum-is in (
         ap (λ (g : RunningGroup). g .bottom) e,
         λ n first temps b above j f.
-            rw e (follows-join n vol first i temps r (pre .0) b v next (pre .2) above volume (c .before .before .add-term2 .ensures) temp heat each (r .met ⊕ sum .s) (met-parts (r .met) (sum .s) (r .heat .s) (v ⊛ next) (term-sum (r .heat) sum (v ⊛ next) sum-is)) (λ w. temp-is) j (λ d w. h n first temps b d) (m n first temps b) f),
+            rw e (follows-join n vol first i temps r (pre .0) b v next (pre .2) above volume (start .pre .3) temp heat each (r .met ⊕ sum .s) (met-parts (r .met) (sum .s) (r .heat .s) (v ⊛ next) (term-sum (r .heat) sum (v ⊛ next) sum-is)) (λ w. temp-is) j (λ d w. h n first temps b d) (m n first temps b) f),
       )
 
   -- the temperature is what it was
   level : (q : Accumulator) → (q ≡ accumulate (r .heat) (v ⊛ r .temp)) ⊎ ((q ≡ sum) × SameValue (v ⊛ next) (v ⊛ r .temp)) → eq temp (r .temp) ≡ true → (n : ℕ) (first temps : List Float) → i + 1 < n → AsDefined n vol first i temps r → T (finite (q .s)) → q ≡ heatSum vol temp (r .bottom) (i + 2)
   level q known e n first temps b d f =
-      let pre = c .before .before .before .before .pre in
+      let pre = start .pre in
       level-heat n vol first i temps r (pre .0) b d v (pre .2) temp q (v ⊛ next) (known-as q _ sum _ sum-is known) f (div-fits binary64 _ _) e
 
   each-is : (each : Float) → ((each ≡ r .each) × (eq v (r .each) ≡ true)) ⊎ (each ≡ zero-f ⊘ zero-f) → (n : ℕ) (first temps : List Float) → i + 1 < n → AsDefined n vol first i temps r → EachIs vol (r .bottom) (i + 2) each
   each-is each (inl e) n first temps b d =
-      let pre = c .before .before .before .before .pre in
+      let pre = start .pre in
       rw (e .0) (d .each-fits, λ m. each-more n vol first i temps r (pre .0) b d v (pre .2) v-fits (e .1))
   each-is each (inr e) n first temps b d = rw e (div-fits binary64 zero-f zero-f, λ m. absurd (differ-nan m))
 
 add-term-requires : tie.Need-add-term-requires
 add-term-requires c κs = search needs
-
-add-term-requires-2 : tie.Need-add-term-requires-2
-add-term-requires-2 c κs = search needs
 
 total-of-requires : tie.Need-total-of-requires
 total-of-requires c κs = search needs
@@ -132,7 +132,6 @@ join-any-spec =
     tie.close
     (tie.spec
     add-term-requires
-    add-term-requires-2
     total-of-requires
     total-of-requires-2
     each-with-requires

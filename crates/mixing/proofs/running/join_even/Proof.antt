@@ -27,7 +27,7 @@ use Rattle.mixing.proofs.running.join_even.Tie as tie
 -- what is worked before the ways part
 module _ (c : tie.After-total-of2) where
   abbrev start : tie.Start
-  start = c .before .before .before .before
+  start = c .before .before .before
 
   abbrev r : RunningGroup
   r = start .args .r
@@ -51,7 +51,7 @@ module _ (c : tie.After-total-of2) where
   met = r .met ⊕ sum .s
 
   abbrev volume : Accumulator
-  volume = c .before .before .add-term .result
+  volume = start .args .volume
 
   abbrev temp : Float
   temp = c .before .total-of .result ⊘ c .total-of2 .result
@@ -60,7 +60,7 @@ module _ (c : tie.After-total-of2) where
   v-fits = passes _ (start .good .1 .1 .1 .0 .1)
 
   sum-is : T (finite met) → sum ≡ accumulate (r .heat) (v ⊛ next)
-  sum-is m = start .pre .5 (is-true (finite (sum .s)) (sum-parts-finite (r .met) (sum .s) m .1))
+  sum-is m = start .pre .6 (is-true (finite (sum .s)) (sum-parts-finite (r .met) (sum .s) m .1))
 
   follows : (q : RunningGroup) (heat : Accumulator)
       → q ≡ joinedGroup r temp heat volume (r .each) met
@@ -70,25 +70,22 @@ module _ (c : tie.After-total-of2) where
       let pre = start .pre in (
         ap (λ (g : RunningGroup). g .bottom) e,
         λ n first temps b above j f.
-            rw e (follows-join n vol first i temps r (pre .0) b v next (pre .2) above volume (c .before .before .add-term .ensures) temp heat (r .each) met (met-parts (r .met) (sum .s) (r .heat .s) (v ⊛ next) (pre .4))
+            rw e (follows-join n vol first i temps r (pre .0) b v next (pre .2) above volume (pre .3) temp heat (r .each) met (met-parts (r .met) (sum .s) (r .heat .s) (v ⊛ next) (pre .5))
             (λ m. quotient-of _ _ _ _ _ (c .before .total-of .ensures) (c .total-of2 .ensures) (sum-is m)) j (h n first temps b)
-            (λ d. (d .each-fits, λ m. each-more n vol first i temps r (pre .0) b d v (pre .2) v-fits (pre .3))) f),
+            (λ d. (d .each-fits, λ m. each-more n vol first i temps r (pre .0) b d v (pre .2) v-fits (pre .4))) f),
       )
 
   -- the product is what it was
   kept : (q : Accumulator) → (q ≡ accumulate (r .heat) (v ⊛ r .temp)) ⊎ ((q ≡ sum) × SameValue (v ⊛ next) (v ⊛ r .temp)) → eq (v ⊛ temp) (v ⊛ r .temp) ≡ true → (n : ℕ) (first temps : List Float) → i + 1 < n → AsDefined n vol first i temps r → T (finite met) → T (finite (q .s)) → q ≡ heatSum vol temp (r .bottom) (i + 2)
   kept q known p n first temps b d m f =
       let pre = start .pre in
-      even-heat n vol first i temps r (pre .0) b d v (pre .2) temp q (v ⊛ next) (known-as q _ sum _ (sum-is m) known) f v-fits (pre .3) p
+      even-heat n vol first i temps r (pre .0) b d v (pre .2) temp q (v ⊛ next) (known-as q _ sum _ (sum-is m) known) f v-fits (pre .4) p
 
   -- it is another
   anew : (q : Accumulator) → (q ≡ heatSum vol temp (r .bottom) (i + 2)) ⊎ (finite (q .s) ≡ true → q ≡ turns (sumTurn (λ (k : ℕ). v ⊛ temp)) (i + 2 - r .bottom) (r .bottom) nothing-added) → (n : ℕ) (first temps : List Float) → i + 1 < n → AsDefined n vol first i temps r → T (finite met) → T (finite (q .s)) → q ≡ heatSum vol temp (r .bottom) (i + 2)
   anew q either n first temps b d m f =
       let pre = start .pre in
-      equal-heat n vol first i temps r (pre .0) b d v (pre .2) v-fits (pre .3) temp q either f
-
-add-term-requires : tie.Need-add-term-requires
-add-term-requires c κs = search needs
+      equal-heat n vol first i temps r (pre .0) b d v (pre .2) v-fits (pre .4) temp q either f
 
 total-of-requires : tie.Need-total-of-requires
 total-of-requires c κs = search needs
@@ -125,7 +122,6 @@ pub join-even-spec : {M : Type 1} → statement M
 join-even-spec =
     tie.close
     (tie.spec
-    add-term-requires
     total-of-requires
     total-of-requires-2
     add-known-requires
