@@ -30,7 +30,7 @@ above-zero (fin true m e) h g = absurd (true≢false (sym h))
 above-zero (fin false zero e) h g = let l = ltb-true (0 * 1 * down e) (0 * up e * 1) h in absurd (omega arith)
 above-zero (fin false (suc m) e) h g = lt→ltb 0 (suc m) (zero-lt-suc m)
 
-positive-some : (b : Float) → T (positive b) → T (not (isMinusZero b))
+pub positive-some : (b : Float) → T (positive b) → T (not (isMinusZero b))
 positive-some nan p = tt
 positive-some (inf s) p = tt
 positive-some (fin true m e) p = absurd p
@@ -38,7 +38,7 @@ positive-some (fin false zero e) p = tt
 positive-some (fin false (suc m) e) p = tt
 
 -- 0 + x is x, unless that is -0
-nothing-plus : (x : Float) → T (fits binary64 x) → T (not (isMinusZero x)) → zero-f ⊕ x ≡ x
+pub nothing-plus : (x : Float) → T (fits binary64 x) → T (not (isMinusZero x)) → zero-f ⊕ x ≡ x
 unfolding add ofBits
 nothing-plus nan p h = refl
 nothing-plus (inf s) p h = refl
@@ -76,3 +76,10 @@ equals-more b k a q r e s m = (
         λ i. m h (is-true (le b (a .s)) (old .0)) (is-true (finite (q .s)) f) ∙ rw (turns-more (sumTurn (λ (j : ℕ). b)) k i nothing-added, ← old .1 i) refl,
       ),
 )
+
+-- a turn by FastTwoSum
+abbrev pub fast : Accumulator → Float → Accumulator
+fast a b = record { s = a .s ⊕ b; c = a .c ⊕ (b ⊖ (a .s ⊕ b ⊖ a .s)) }
+
+pub equals-fast : (b : Float) (k : ℕ) (a : Accumulator) → T (fits binary64 b) → Equals b k a → Equals b (k + 1) (fast a b)
+equals-fast b k a r e = equals-more b k a (fast a b) r e refl (λ h l f. fast-two-sum a b (e .0) r h l (passes _ f))

@@ -12,3 +12,5 @@ pub mod Members
 pub mod Within
 pub mod Sterbenz
 pub mod FastTwoSum
+pub mod FourTerms
+pub mod EqualTerms

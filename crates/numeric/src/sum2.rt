@@ -2,9 +2,9 @@
 ghost use mathlib.Core.Path.{_≡_};
 ghost use mathlib.Core.Bool.{true};
 ghost use Prim.Native.Nat.{ℕ, _≤_};
-ghost use lib.Ieee.{lt, le};
+ghost use lib.Ieee.{lt, le, eq};
 ghost use lib.Ieee.Scale.{finite};
-ghost use Rattle.numeric.specs.Double.{_⊕_, zero-f};
+ghost use Rattle.numeric.specs.Double.{_⊕_, _⊛_, zero-f, four-f};
 ghost use Rattle.numeric.specs.Turns.{turns};
 ghost use Rattle.numeric.specs.Sum2.{nothing-added, accumulate, sumTurn, total, sum2};
 
@@ -56,6 +56,35 @@ pub fn equal_terms(b: f64, m: usize) -> Accumulator
 {
     let mut a = Accumulator { s: b, c: 0.0 };
     let mut k = 1;
+    while k < m {
+        a = add_smaller(a, b);
+        k += 1;
+    }
+    a
+}
+
+// Whether b + b + b + b is 4 b, as it is of ordinary numbers: then four terms lose nothing.
+pub fn is_fourfold(b: f64) -> bool
+    ensures { λ r. ⌜ r ≡ eq (b ⊕ b ⊕ b ⊕ b) (four-f ⊛ b) ⌝ }
+{
+    b + b + b + b == 4.0 * b
+}
+
+// Sum2 of four or more equal terms, from 4 b and 5 b on: those do not wait for a sum of the terms before them.
+pub fn many_equal_terms(b: f64, m: usize) -> Accumulator
+    requires { ⌜ (4 ≤ m) × (eq (b ⊕ b ⊕ b ⊕ b) (four-f ⊛ b) ≡ true) ⌝ }
+    ensures { λ r. ⌜ (lt zero-f b ≡ true → finite (r .s) ≡ true → (i : ℕ) → r ≡ turns (sumTurn (λ (k : ℕ). b)) m i nothing-added) ⌝ }
+{
+    let four = 4.0 * b;
+    if m == 4 {
+        return Accumulator { s: four, c: 0.0 };
+    }
+    let five = 5.0 * b;
+    let mut a = Accumulator {
+        s: five,
+        c: b - (five - four),
+    };
+    let mut k = 5;
     while k < m {
         a = add_smaller(a, b);
         k += 1;
