@@ -14,3 +14,4 @@ pub mod Sterbenz
 pub mod FastTwoSum
 pub mod FourTerms
 pub mod EqualTerms
+pub mod Fourfold

@@ -27,7 +27,7 @@ minus-times m n k = mul-comm (m - n) k ∙ mul-sub k m n ∙ ap (λ (x : ℕ). x
 abbrev pub Short : ℕ → ℕ → Type 0
 Short p d = (q : ℕ) × (j : ℕ) × (d ≡ q * 2 ^ j) × (q < p)
 
-raised : (m i j : ℕ) → i ≤ j → m * 2 ^ j ≡ m * 2 ^ (j - i) * 2 ^ i
+pub raised : (m i j : ℕ) → i ≤ j → m * 2 ^ j ≡ m * 2 ^ (j - i) * 2 ^ i
 raised m i j h = ap (λ (x : ℕ). m * 2 ^ x) (sym (back j i h)) ∙ ap (λ (x : ℕ). m * x) (pow-add 2 (j - i) i) ∙ sym (mul-assoc m (2 ^ (j - i)) (2 ^ i))
 
 -- the difference of two such numbers, where it is at most the lesser
