@@ -79,13 +79,7 @@ fn even_heat(vol: &[f64; MAX_LAYERS], bottom: usize, end: usize, x: f64, p: f64)
     ensures { λ r. ⌜ (r ≡ heatSum (now (vol .entry)) x bottom end) ⊎ (finite (r .s) ≡ true → r ≡ turns (sumTurn (λ (k : ℕ). p)) (end - bottom) bottom nothing-added) ⌝ }
 {
     if p > 0.0 {
-        let m = end - bottom;
-        if m < 4 {
-            return numeric::sum2::equal_terms(p, m);
-        }
-        if numeric::sum2::is_fourfold(p) {
-            return numeric::sum2::many_equal_terms(p, m);
-        }
+        return numeric::sum2::equal_terms(p, end - bottom);
     }
     heat_at(vol, bottom, end, x)
 }

@@ -1,28 +1,26 @@
--- Proves where a Sum2 of four and of five equal terms b is known at once (01, Arithmetic underneath): where b + b + b + b, rounded at each sum, is 4 b, four terms have the
--- sum 4 b and lose nothing, and five have the sum 5 b.
+-- Proves that a Sum2 of four and of five equal terms b, above zero, is known at once (01, Arithmetic underneath): four have the sum 4 b and lose nothing, and five
+-- have the sum 5 b.
 use mathlib.Core.Path.{_≡_, refl, sym, ap, _∙_, subst}
-use mathlib.Core.Logic.{inl, inr}
-use mathlib.Core.Bool.{Bool, true, false, not}
+use mathlib.Core.Bool.{true, false, not}
 use Prim.Native.Nat.{ℕ, _+_, _*_, _<_}
-use native.Mathlib.Nat.{one-mul, mul-pos, zero-lt-suc}
+use native.Mathlib.Nat.{one-mul, zero-lt-suc}
 use native.Mathlib.Omega.{arith}
 use lib.Dec.{T}
 use lib.Pow.{pow-pos}
-use lib.Ieee.{Float, nan, inf, fin, binary64, low, round, mul, sub, neg, eq, lt, le, fits, ofBits}
-use lib.Ieee.Fits.{add-fits, sub-fits, mul-fits, neg-fits}
+use lib.Ieee.{Float, binary64, low, sub, neg, lt, le, fits, ofBits}
+use lib.Ieee.Fits.{sub-fits, mul-fits, neg-fits}
 use lib.Ieee.Exact.{HasValue}
-use lib.Ieee.Positive.{positive, positive-of-value, mul-at}
-use lib.Ieee.Scale.{finite}
+use lib.Ieee.Positive.{positive, mul-at}
+use lib.Ieee.Scale.{finite, round-val, round-under}
 use Rattle.numeric.specs.Double.{_⊕_, _⊖_, _⊛_, zero-f, four-f, five-f}
-use Rattle.numeric.specs.Zeros.{IsZero, SameValue}
 use Rattle.numeric.specs.Turns.{turns}
 use Rattle.numeric.specs.Sum2.{nothing-added, sumTurn}
 use Rattle.numeric.specs.declared.sum2.Accumulator.{Accumulator}
 use Rattle.numeric.proofs.Zeros.{isMinusZero, add-not-minus}
-use Rattle.numeric.proofs.SameValue.{equal-same}
-use Rattle.numeric.proofs.Sterbenz.{unit, top, Units, rounds-to, total, twice-short, units-at}
+use Rattle.numeric.proofs.Sterbenz.{unit, top, rounds-to, total, twice-short, units-at}
 use Rattle.numeric.proofs.Finite.{product-parts-finite}
 use Rattle.numeric.proofs.FastTwoSum.{above-zero, nothing-plus, positive-some, Equals, equals-one, equals-fast, fast}
+use Rattle.numeric.proofs.Fourfold.{third, fourfold}
 use Rattle.numeric.proofs.FourTerms.{near, under-top, less-finite, four-state}
 
 -- ---- 4 b and 5 b, in units
@@ -38,15 +36,10 @@ times-five b n B v =
     let e : 5 * n ≡ n + n + (n + n) + n = omega arith in
     mul-at binary64 five-f b 5 1 n (unit binary64) tt B (zero-lt-suc 0) (pow-pos (low binary64)) (refl, refl) v ∙ rw (one-mul (unit binary64), e) refl
 
-no-zero : (x : Float) → T (positive x) → IsZero x → ⊥
-no-zero x p (true, e) = subst (λ (z : Float). T (positive z)) e p
-no-zero x p (false, e) = subst (λ (z : Float). T (positive z)) e p
+half-under : (n t : ℕ) → n + n + (n + n) < t → n + n < t
+half-under n t h = omega arith
 
-same-nonzero : (x y : Float) → T (positive y) → SameValue x y → x ≡ y
-same-nonzero x y p (inl e) = e
-same-nonzero x y p (inr z) = absurd (no-zero y p (z .1))
-
-module _ (b : Float) (fb : T (fits binary64 b)) (g : eq (b ⊕ b ⊕ b ⊕ b) (four-f ⊛ b) ≡ true) where
+module _ (b : Float) (fb : T (fits binary64 b)) where
   -- the state after four turns
   four-known : lt zero-f b ≡ true → T (finite (four-f ⊛ b)) → fast (fast (fast (record { s = b; c = zero-f }) b) b) b ≡ record { s = four-f ⊛ b; c = zero-f }
   four-known h f =
@@ -54,12 +47,15 @@ module _ (b : Float) (fb : T (fits binary64 b)) (g : eq (b ⊕ b ⊕ b ⊕ b) (f
       let w = units-at binary64 b B fb in
       let n = w .0 in
       let is = times-four b n B (w .2 .value) in
-      let short = twice-short binary64 (n + n) (twice-short binary64 n (w .2 .short)) in
-      let v : HasValue (four-f ⊛ b) false (n + n + (n + n)) (unit binary64) = rw is (rounds-to binary64 (n + n + (n + n)) short (under-top (n + n + (n + n)) (subst (λ (z : Float). T (finite z)) is f))) in
-      let N : 0 < n = w .1 in
-      let p = positive-of-value (four-f ⊛ b) (n + n + (n + n)) (unit binary64) v (omega arith) in
-      let same = same-nonzero (b ⊕ b ⊕ b ⊕ b) (four-f ⊛ b) p (equal-same (b ⊕ b ⊕ b ⊕ b) (four-f ⊛ b) (add-fits binary64 (b ⊕ b ⊕ b) b) (mul-fits binary64 four-f b) g) in
-      four-state b n N (w .2) B fb (same ∙ is) (rw same f) ∙ ap (λ (x : Float). record { s = x; c = zero-f }) same
+      let four-finite = subst (λ (z : Float). T (finite z)) is f in
+      let t = under-top (n + n + (n + n)) four-finite in
+      let two : HasValue (b ⊕ b) false (n + n) (unit binary64) = rw (total binary64 b b n n (w .2 .value) (w .2 .value)) (rounds-to binary64 (n + n) (twice-short binary64 n (w .2 .short)) (half-under n (top binary64) t)) in
+      let three-is : b ⊕ b ⊕ b ≡ near false (n + n + n) = total binary64 (b ⊕ b) b (n + n) n two (w .2 .value) in
+      let three-finite = less-finite (n + n + n) (n + n + (n + n)) (omega arith) four-finite in
+      let three : HasValue (b ⊕ b ⊕ b) false (third n) (unit binary64) = rw three-is (round-val binary64 (n + n + n) (unit binary64) (round-under binary64 (n + n + n) (unit binary64) three-finite)) in
+      let four-is : b ⊕ b ⊕ b ⊕ b ≡ near false (n + n + (n + n)) = total binary64 (b ⊕ b ⊕ b) b (third n) n three (w .2 .value) ∙ fourfold n (w .2 .short) (w .1) t in
+      let same : b ⊕ b ⊕ b ⊕ b ≡ four-f ⊛ b = four-is ∙ sym is in
+      four-state b n (w .1) (w .2) B fb four-is (rw same f) ∙ ap (λ (x : Float). record { s = x; c = zero-f }) same
 
   pub four-equals : Equals b 4 (record { s = four-f ⊛ b; c = zero-f })
   four-equals = (

@@ -2,9 +2,9 @@
 ghost use mathlib.Core.Path.{_≡_};
 ghost use mathlib.Core.Bool.{true};
 ghost use Prim.Native.Nat.{ℕ, _≤_};
-ghost use lib.Ieee.{lt, le, eq};
+ghost use lib.Ieee.{lt, le};
 ghost use lib.Ieee.Scale.{finite};
-ghost use Rattle.numeric.specs.Double.{_⊕_, _⊛_, zero-f, four-f};
+ghost use Rattle.numeric.specs.Double.{_⊕_, zero-f};
 ghost use Rattle.numeric.specs.Turns.{turns};
 ghost use Rattle.numeric.specs.Sum2.{nothing-added, accumulate, sumTurn, total, sum2};
 
@@ -49,8 +49,8 @@ pub fn one_term(b: f64) -> Accumulator
     Accumulator { s: 0.0 + b, c: 0.0 }
 }
 
-// Sum2 of m equal terms: the same sum where they are above zero and it is finite. Each is at most the sum of those before it.
-pub fn equal_terms(b: f64, m: usize) -> Accumulator
+// Sum2 of few equal terms: the same sum where they are above zero and it is finite. Each is at most the sum of those before it.
+fn few_equal_terms(b: f64, m: usize) -> Accumulator
     requires { ⌜ 1 ≤ m ⌝ }
     ensures { λ r. ⌜ (lt zero-f b ≡ true → finite (r .s) ≡ true → (i : ℕ) → r ≡ turns (sumTurn (λ (k : ℕ). b)) m i nothing-added) ⌝ }
 {
@@ -63,18 +63,14 @@ pub fn equal_terms(b: f64, m: usize) -> Accumulator
     a
 }
 
-// Whether b + b + b + b is 4 b, as it is of ordinary numbers: then four terms lose nothing.
-pub fn is_fourfold(b: f64) -> bool
-    ensures { λ r. ⌜ r ≡ eq (b ⊕ b ⊕ b ⊕ b) (four-f ⊛ b) ⌝ }
-{
-    b + b + b + b == 4.0 * b
-}
-
-// Sum2 of four or more equal terms, from 4 b and 5 b on: those do not wait for a sum of the terms before them.
-pub fn many_equal_terms(b: f64, m: usize) -> Accumulator
-    requires { ⌜ (4 ≤ m) × (eq (b ⊕ b ⊕ b ⊕ b) (four-f ⊛ b) ≡ true) ⌝ }
+// Sum2 of equal terms, of more than three from 4 b or 5 b on: four terms lose nothing, and neither of the two waits for a sum of the terms before it.
+pub fn equal_terms(b: f64, m: usize) -> Accumulator
+    requires { ⌜ 1 ≤ m ⌝ }
     ensures { λ r. ⌜ (lt zero-f b ≡ true → finite (r .s) ≡ true → (i : ℕ) → r ≡ turns (sumTurn (λ (k : ℕ). b)) m i nothing-added) ⌝ }
 {
+    if m < 4 {
+        return few_equal_terms(b, m);
+    }
     let four = 4.0 * b;
     if m == 4 {
         return Accumulator { s: four, c: 0.0 };
