@@ -202,6 +202,42 @@ fn join_even(
     )
 }
 
+fn join_exact(
+    r: RunningGroup,
+    vol: &[f64; MAX_LAYERS],
+    i: usize,
+    v: f64,
+    next: f64,
+    heat: Accumulator,
+    volume: Accumulator,
+) -> RunningGroup
+    requires { ⌜ (r .bottom ≤ i) × (i + 1 < maxLayers) × (v ≡ getD (now vol) (i + 1) nan) × (volume ≡ accumulate (r .volume) (v ⊛ one-f)) × (eq v (r .each) ≡ true) × (heat .s ≡ r .heat .s ⊕ (v ⊛ next)) × (finite (heat .s) ≡ true → heat ≡ accumulate (r .heat) (v ⊛ next)) ⌝ }
+    ensures { λ q. ⌜ (q .bottom ≡ r .bottom) × ((n : ℕ) (first temps : List Float) → i + 1 < n → next ≡ getD temps (i + 1) nan → SaysJoins (r .temp) next true → Follows n (now (vol .entry)) first i temps r → Follows n (now (vol .entry)) first (i + 1) temps q) ⌝ }
+{
+    let product = v * r.temp;
+    let temp = heat.s / numeric::sum2::total_of(volume);
+    let met = r.met + heat.s;
+    let p = v * temp;
+    if p == product {
+        return joined(
+            r,
+            temp,
+            add_known(r.heat, product, v * next, heat),
+            volume,
+            r.each,
+            met,
+        );
+    }
+    joined(
+        r,
+        temp,
+        even_heat(vol, r.bottom, i + 2, temp, p),
+        volume,
+        r.each,
+        met,
+    )
+}
+
 // The layer i + 1, of volume v and temperature `next`, joins the group. Where its volume is that of each, and its heat is above zero and at most the group's,
 // which most layers have, the shorter sums serve.
 fn join(r: RunningGroup, vol: &[f64; MAX_LAYERS], i: usize, v: f64, next: f64) -> RunningGroup
@@ -215,6 +251,12 @@ fn join(r: RunningGroup, vol: &[f64; MAX_LAYERS], i: usize, v: f64, next: f64) -
     if v == r.each {
         if own > 0.0 {
             if own <= r.heat.s {
+                let m = i - r.bottom;
+                if m < 4 {
+                if m != 2 {
+                if r.heat.c == 0.0 {
+                    return join_exact(r, vol, i, v, next, heat, volume);
+                } } }
                 return join_even(r, vol, i, v, next, heat, volume);
             }
         }

@@ -91,11 +91,11 @@ down-up d h =
     let e = minus-round binary64 d u .1 in
     rw (← e) (opposite (near true d) (neg-finite (near true d) (rw e h)))
 
+pub near-below : (d : ℕ) → near true d ≡ neg (near false d)
+near-below d = sym (neg-neg (near true d)) ∙ ap neg (minus-round binary64 d u .1)
+
 up-down : (d : ℕ) → T (finite (near false d)) → near false d ⊕ near true d ≡ zero-f
-up-down d h =
-    let e = minus-round binary64 d u .1 in
-    let g : near true d ≡ neg (near false d) = sym (neg-neg (near true d)) ∙ ap neg e in
-    rw g (opposite (near false d) h)
+up-down d h = rw (near-below d) (opposite (near false d) h)
 
 -- p - y and p - z, where y and z are as far from p, one below it and one above
 module _ (p y z : Float) (n k l : ℕ) (v : HasValue p false n u) (w : HasValue y false k u) (x : HasValue z false l u) (g : T (finite (near false n))) (e : k + l ≡ n + n) where

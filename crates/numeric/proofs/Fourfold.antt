@@ -20,12 +20,12 @@ use Rattle.numeric.proofs.Rounding.{unique}
 use Rattle.numeric.proofs.Sterbenz.{unit, top, Short, rounds-to, twice-short, raised}
 
 -- ---- what `compare` says
-abbrev Says : Ordering → ℕ → ℕ → Type 0
+abbrev pub Says : Ordering → ℕ → ℕ → Type 0
 Says Ordering·lt a b = a < b
 Says Ordering·eq a b = a ≡ b
 Says Ordering·gt a b = b < a
 
-says : (a b : ℕ) → Says (compare a b) a b
+pub says : (a b : ℕ) → Says (compare a b) a b
 says a b = go (compare a b) (leb→le a b) (nleb→lt a b) (eqb→eq a b) (λ (e : a ≡ b). subst (λ (x : ℕ). T (eqb a x)) e (eqb-refl a))
   where
     go : (o : Ordering) → (T (isLe o) → a ≤ b) → (T (not (isLe o)) → b < a) → (T (isEq o) → a ≡ b) → (a ≡ b → T (isEq o)) → Says o a b
@@ -34,7 +34,7 @@ says a b = go (compare a b) (leb→le a b) (nleb→lt a b) (eqb→eq a b) (λ (e
     go Ordering·gt h k e n = k tt
 
 -- ---- the whole number nearest to x / c, where x is d more or d less than h × c: it is h where d is less than a half of c, or a half and h is even
-abbrev Half : ℕ → ℕ → ℕ → Type 0
+abbrev pub Half : ℕ → ℕ → ℕ → Type 0
 Half c h d = (d * 2 < c) ⊎ ((d * 2 ≡ c) × (h % 2 ≡ 0))
 
 above-nearest : (c h d : ℕ) (o : Ordering) → Says o (d * 2) c → Half c h d → nearest h o ≡ h
@@ -48,7 +48,7 @@ half-less : (c h d : ℕ) → 0 < c → Half c h d → d < c
 half-less c h d C (inl l) = omega arith
 half-less c h d C (inr e) = let q = e .0 in omega arith
 
-closest-above : (x c h d : ℕ) → 0 < c → x ≡ h * c + d → Half c h d → closest x c ≡ h
+pub closest-above : (x c h d : ℕ) → 0 < c → x ≡ h * c + d → Half c h d → closest x c ≡ h
 closest-above x c h d C e w =
     let l = half-less c h d C w in
     let q : (h * c + d) / c ≡ h = mul-add-div-right C h d ∙ rw (div-eq-of-lt l) (add-zero h) in
@@ -141,7 +141,7 @@ quarter K h d l w = ⊎-elim (λ q. inr-half q w) (λ q. inl (omega arith)) (eq-
     inr-half q (inr e) = inr (omega arith, e)
 
 -- ---- the same of doubles, n units each
-abbrev C : ℕ
+abbrev pub C : ℕ
 C = 2 ^ 53
 
 abbrev u : ℕ
@@ -163,7 +163,7 @@ rounded-as x y k q s c e short l =
     unique binary64 (round binary64 false x u) (round binary64 false y u) false y u (pow-pos (low binary64)) (round-fits binary64 false x u) (round-fits binary64 false y u)
     (rw (round-as x k q s c) (subst (λ (z : ℕ). HasValue (units binary64 false q k) false z u) (sym e) (units-val binary64 false q k (subst (λ (z : ℕ). z < top binary64) e l)))) (rounds-to binary64 y short l)
 
-sizes : (z k : ℕ) → z - 53 ≡ k + 1 → 53 + k + 1 ≡ z
+pub sizes : (z k : ℕ) → z - 53 ≡ k + 1 → 53 + k + 1 ≡ z
 sizes z k h = omega arith
 
 module _ (n q j : ℕ) (e : n ≡ q * 2 ^ j) (small : q < C) (N : 0 < n) where
@@ -273,19 +273,19 @@ module _ (n q j : ℕ) (e : n ≡ q * 2 ^ j) (small : q < C) (N : 0 < n) where
 abbrev pub third : ℕ → ℕ
 third n = grid binary64 (n + n + n) u
 
-grid-as : (x k : ℕ) → size x - 53 ≡ k → grid binary64 x u ≡ closest x (2 ^ k) * 2 ^ k
+pub grid-as : (x k : ℕ) → size x - 53 ≡ k → grid binary64 x u ≡ closest x (2 ^ k) * 2 ^ k
 grid-as x k s =
     let U = pow-pos (low binary64) in
     let whole : x * u / u ≡ x = mul-div-cancel x U in
     let same : closest (x * u) (u * 2 ^ k) ≡ closest x (2 ^ k) = closest-same (x * u) (u * 2 ^ k) x (2 ^ k) (mul-pos U (pow-pos k)) (pow-pos k) (mul-assoc x u (2 ^ k)) in
     rw (whole, s, same) refl
 
-all-kept : (x : ℕ) → closest x (2 ^ 0) * 2 ^ 0 ≡ x
+pub all-kept : (x : ℕ) → closest x (2 ^ 0) * 2 ^ 0 ≡ x
 all-kept x =
     let c : closest x 1 ≡ x = closest-above x 1 x 0 (zero-lt-suc 0) (omega arith) (inl (omega arith)) in
     ap (λ (i : ℕ). i * 1) c ∙ omega arith
 
-least-or-less : (a b : ℕ) → (a ≤ b) ⊎ (b < a)
+pub least-or-less : (a b : ℕ) → (a ≤ b) ⊎ (b < a)
 least-or-less a b = go (leb a b) (leb→le a b) (nleb→lt a b)
   where
     go : (t : Bool) → (T t → a ≤ b) → (T (not t) → b < a) → (a ≤ b) ⊎ (b < a)

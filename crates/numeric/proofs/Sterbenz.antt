@@ -20,7 +20,7 @@ use lib.Ieee.Scale.{round-same, finite}
 use Rattle.numeric.proofs.Rounding.{unique, fits-bounds, in-units, in-range}
 use Rattle.numeric.proofs.Zeros.{in-order}
 
-minus-times : (m n k : ℕ) → (m - n) * k ≡ m * k - n * k
+pub minus-times : (m n k : ℕ) → (m - n) * k ≡ m * k - n * k
 minus-times m n k = mul-comm (m - n) k ∙ mul-sub k m n ∙ ap (λ (x : ℕ). x - k * n) (mul-comm k m) ∙ ap (λ (x : ℕ). m * k - x) (mul-comm k n)
 
 -- ---- d is a number below p times a power of two: in units of a format's smallest value such a number is one of the format's
@@ -148,7 +148,7 @@ module _ (f : Format) where
       let t : 2 ^ (j + 1) ≡ 2 ^ j * 2 = pow-add 2 j 1 in
       (q, j + 1, rw (t, e) (omega arith), s)
 
-  ordered : (x y : Float) (m n : ℕ) → T (positive x) → T (positive y) → HasValue x false m unit → HasValue y false n unit → T (le x y) → m ≤ n
+  pub ordered : (x y : Float) (m n : ℕ) → T (positive x) → T (positive y) → HasValue x false m unit → HasValue y false n unit → T (le x y) → m ≤ n
   ordered x y m n p q v w h = le-of-mul-le-mul-right (values-of-le x y m unit n unit p q v w h) (pow-pos (low f))
 
   no-less : (a x : Float) (n k : ℕ) → Units a n → T (fits f a) → x ≡ round f false (n + k) unit → T (le a x)
@@ -167,7 +167,7 @@ module _ (f : Format) where
       go false under over = let u = r .under in let o = over tt in omega arith
 
   -- the law
-  above-finite : (x : Float) → T (above x) → T (finite x) → T (positive x)
+  pub above-finite : (x : Float) → T (above x) → T (finite x) → T (positive x)
   above-finite nan h g = absurd h
   above-finite (inf s) h g = absurd g
   above-finite (fin true m e) h g = absurd h
