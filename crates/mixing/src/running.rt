@@ -11,7 +11,7 @@ ghost use lib.Ieee.Scale.{finite};
 ghost use Rattle.numeric.specs.Double.{_⊕_, _⊛_, _⊘_, zero-f, one-f};
 ghost use Rattle.numeric.specs.Zeros.{SameValue};
 ghost use Rattle.numeric.specs.Turns.{turns};
-ghost use Rattle.numeric.specs.Sum2.{nothing-added, accumulate, sumTurn};
+ghost use Rattle.numeric.specs.Sum2.{nothing-added, accumulate, sumTurn, total};
 ghost use Rattle.mixing.specs.Limits.{maxLayers};
 ghost use Rattle.mixing.specs.Round.{oneRound};
 ghost use Rattle.mixing.specs.Rearrange.{isSorted};
@@ -202,7 +202,8 @@ fn join_even(
     )
 }
 
-fn join_exact(
+// The same where the sums before it lost nothing: the heat's total is its s. It is written out, as a division that waits for either total takes the longer time of both.
+fn join_even_plain(
     r: RunningGroup,
     vol: &[f64; MAX_LAYERS],
     i: usize,
@@ -211,7 +212,7 @@ fn join_exact(
     heat: Accumulator,
     volume: Accumulator,
 ) -> RunningGroup
-    requires { ⌜ (r .bottom ≤ i) × (i + 1 < maxLayers) × (v ≡ getD (now vol) (i + 1) nan) × (volume ≡ accumulate (r .volume) (v ⊛ one-f)) × (eq v (r .each) ≡ true) × (heat .s ≡ r .heat .s ⊕ (v ⊛ next)) × (finite (heat .s) ≡ true → heat ≡ accumulate (r .heat) (v ⊛ next)) ⌝ }
+    requires { ⌜ (r .bottom ≤ i) × (i + 1 < maxLayers) × (v ≡ getD (now vol) (i + 1) nan) × (volume ≡ accumulate (r .volume) (v ⊛ one-f)) × (eq v (r .each) ≡ true) × (heat .s ≡ r .heat .s ⊕ (v ⊛ next)) × (finite (heat .s) ≡ true → heat ≡ accumulate (r .heat) (v ⊛ next)) × (finite (heat .s) ≡ true → total heat ≡ heat .s) ⌝ }
     ensures { λ q. ⌜ (q .bottom ≡ r .bottom) × ((n : ℕ) (first temps : List Float) → i + 1 < n → next ≡ getD temps (i + 1) nan → SaysJoins (r .temp) next true → Follows n (now (vol .entry)) first i temps r → Follows n (now (vol .entry)) first (i + 1) temps q) ⌝ }
 {
     let product = v * r.temp;
@@ -238,6 +239,21 @@ fn join_exact(
     )
 }
 
+// One, two and four equal layers lose nothing. The number is asked first: it is the same from mixing to mixing, so that no time is lost on a wrong guess.
+fn is_plain(r: RunningGroup, i: usize) -> bool
+    requires { ⌜ r .bottom ≤ i ⌝ }
+    ensures { λ q. ⌜ (q ≡ true → eq (r .heat .c) zero-f ≡ true) ⌝ }
+{
+    let more = i - r.bottom;
+    if more > 3 {
+        return false;
+    }
+    if more == 2 {
+        return false;
+    }
+    r.heat.c == 0.0
+}
+
 // The layer i + 1, of volume v and temperature `next`, joins the group. Where its volume is that of each, and its heat is above zero and at most the group's,
 // which most layers have, the shorter sums serve.
 fn join(r: RunningGroup, vol: &[f64; MAX_LAYERS], i: usize, v: f64, next: f64) -> RunningGroup
@@ -251,12 +267,9 @@ fn join(r: RunningGroup, vol: &[f64; MAX_LAYERS], i: usize, v: f64, next: f64) -
     if v == r.each {
         if own > 0.0 {
             if own <= r.heat.s {
-                let m = i - r.bottom;
-                if m < 4 {
-                if m != 2 {
-                if r.heat.c == 0.0 {
-                    return join_exact(r, vol, i, v, next, heat, volume);
-                } } }
+                if is_plain(r, i) {
+                    return join_even_plain(r, vol, i, v, next, heat, volume);
+                }
                 return join_even(r, vol, i, v, next, heat, volume);
             }
         }

@@ -77,9 +77,9 @@ module _ (s b q j : ℕ) (e : s ≡ q * 2 ^ j) (small : q < C) where
     flat : b < K → C * K ≤ s → closest (s + b) (K + K) * (K + K) ≡ s
     flat l h =
         let deep : k + 1 ≤ j = not-least k j (λ (g : j ≤ k).
-            let m : q * 2 ^ j ≤ q * K = mul-le-mul-left q (pow-mono g) in
-            let o : q * K < C * K = mul-lt-mul-of-pos-right small (pow-pos k) in
-            omega arith) in
+        let m : q * 2 ^ j ≤ q * K = mul-le-mul-left q (pow-mono g) in
+        let o : q * K < C * K = mul-lt-mul-of-pos-right small (pow-pos k) in
+        omega arith) in
         let i = q * 2 ^ (j - (k + 1)) in
         let f : s ≡ i * (K + K) = e ∙ raised q (k + 1) j deep ∙ ap (λ (x : ℕ). i * x) place in
         let c : closest (s + b) (K + K) ≡ i = closest-above (s + b) (K + K) i b (omega arith) (ap (λ (x : ℕ). x + b) f) (inl (omega arith)) in
@@ -91,12 +91,12 @@ module _ (s b q j : ℕ) (e : s ≡ q * 2 ^ j) (small : q < C) where
         let a = low-end in
         let three : 3 * K ≤ C * K = mul-le-mul-right K (omega arith) in
         let deep : k ≤ j = le-of-suc-le-suc (lt-of-not-le (λ (g : suc j ≤ k).
-            let p : 2 ^ (j + 1) ≡ 2 ^ j * 2 = pow-add 2 j 1 in
-            let g1 : j + 1 ≤ k = omega arith in
-            let m : 2 ^ j * 2 ≤ K = le-trans (le-of-eq (sym p)) (pow-mono g1) in
-            let n : q * (2 ^ j * 2) ≤ q * K = mul-le-mul-left q m in
-            let o : q * K < C * K = mul-lt-mul-of-pos-right small (pow-pos k) in
-            absurd (omega arith))) in
+        let p : 2 ^ (j + 1) ≡ 2 ^ j * 2 = pow-add 2 j 1 in
+        let g1 : j + 1 ≤ k = omega arith in
+        let m : 2 ^ j * 2 ≤ K = le-trans (le-of-eq (sym p)) (pow-mono g1) in
+        let n : q * (2 ^ j * 2) ≤ q * K = mul-le-mul-left q m in
+        let o : q * K < C * K = mul-lt-mul-of-pos-right small (pow-pos k) in
+        absurd (omega arith))) in
         let i = q * 2 ^ (j - k) in
         let f : s ≡ i * K = e ∙ raised q k j deep in
         let under : i < C = lt-of-mul-lt-mul-right K (lt-of-le-of-lt (le-of-eq (sym f)) h) in
