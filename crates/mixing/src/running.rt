@@ -181,8 +181,7 @@ fn join_even(
     let product = v * r.temp;
     let temp = numeric::sum2::total_of(heat) / numeric::sum2::total_of(volume);
     let met = r.met + heat.s;
-    let p = v * temp;
-    if p == product {
+    if v * temp == product {
         return joined(
             r,
             temp,
@@ -195,7 +194,7 @@ fn join_even(
     joined(
         r,
         temp,
-        even_heat(vol, r.bottom, i + 2, temp, p),
+        even_heat(vol, r.bottom, i + 2, temp, v * temp),
         volume,
         r.each,
         met,
