@@ -210,12 +210,13 @@ fn join_even_plain(
     next: f64,
     heat: Accumulator,
     volume: Accumulator,
+    guess: f64,
 ) -> RunningGroup
-    requires { ⌜ (r .bottom ≤ i) × (i + 1 < maxLayers) × (v ≡ getD (now vol) (i + 1) nan) × (volume ≡ accumulate (r .volume) (v ⊛ one-f)) × (eq v (r .each) ≡ true) × (heat .s ≡ r .heat .s ⊕ (v ⊛ next)) × (finite (heat .s) ≡ true → heat ≡ accumulate (r .heat) (v ⊛ next)) × (finite (heat .s) ≡ true → total heat ≡ heat .s) ⌝ }
+    requires { ⌜ (r .bottom ≤ i) × (i + 1 < maxLayers) × (v ≡ getD (now vol) (i + 1) nan) × (volume ≡ accumulate (r .volume) (v ⊛ one-f)) × (eq v (r .each) ≡ true) × (heat .s ≡ r .heat .s ⊕ (v ⊛ next)) × (finite (heat .s) ≡ true → heat ≡ accumulate (r .heat) (v ⊛ next)) × (finite (heat .s) ≡ true → total heat ≡ guess) ⌝ }
     ensures { λ q. ⌜ (q .bottom ≡ r .bottom) × ((n : ℕ) (first temps : List Float) → i + 1 < n → next ≡ getD temps (i + 1) nan → SaysJoins (r .temp) next true → Follows n (now (vol .entry)) first i temps r → Follows n (now (vol .entry)) first (i + 1) temps q) ⌝ }
 {
     let product = v * r.temp;
-    let temp = heat.s / numeric::sum2::total_of(volume);
+    let temp = guess / numeric::sum2::total_of(volume);
     let met = r.met + heat.s;
     let p = v * temp;
     if p == product {
@@ -238,19 +239,36 @@ fn join_even_plain(
     )
 }
 
-// One, two and four equal layers lose nothing. The number is asked first: it is the same from mixing to mixing, so that no time is lost on a wrong guess.
-fn is_plain(r: RunningGroup, i: usize) -> bool
-    requires { ⌜ r .bottom ≤ i ⌝ }
-    ensures { λ q. ⌜ (q ≡ true → eq (r .heat .c) zero-f ≡ true) ⌝ }
+fn guess_total(more: usize, p: f64, own: f64) -> f64
 {
-    let more = i - r.bottom;
-    if more > 3 {
-        return false;
+    if more == 0 {
+        return p + own;
+    }
+    if more == 1 {
+        return 2.0 * p + own;
     }
     if more == 2 {
-        return false;
+        return 4.0 * p + (own - p);
     }
-    r.heat.c == 0.0
+    if more == 3 {
+        return 4.0 * p + own;
+    }
+    if more == 6 {
+        return 8.0 * p + (own - p);
+    }
+    if more == 7 {
+        return 8.0 * p + own;
+    }
+    0.0
+}
+
+fn is_total(heat: Accumulator, guess: f64) -> bool
+    ensures { λ q. ⌜ (q ≡ true → total heat ≡ guess) ⌝ }
+{
+    if guess > 0.0 {
+        return numeric::sum2::total_of(heat) == guess;
+    }
+    false
 }
 
 // The layer i + 1, of volume v and temperature `next`, joins the group. Where its volume is that of each, and its heat is above zero and at most the group's,
@@ -266,8 +284,12 @@ fn join(r: RunningGroup, vol: &[f64; MAX_LAYERS], i: usize, v: f64, next: f64) -
     if v == r.each {
         if own > 0.0 {
             if own <= r.heat.s {
-                if is_plain(r, i) {
-                    return join_even_plain(r, vol, i, v, next, heat, volume);
+                let product = v * r.temp;
+                if own < product {
+                    let guess = guess_total(i - r.bottom, product, own);
+                    if is_total(heat, guess) {
+                        return join_even_plain(r, vol, i, v, next, heat, volume, guess);
+                    }
                 }
                 return join_even(r, vol, i, v, next, heat, volume);
             }

@@ -1,5 +1,4 @@
 -- `running::join` meets its contract (01, Mix): by the shorter sums where they serve, by the others elsewhere.
-use mathlib.Core.Path.{_∙_}
 use borrow.Author.Needs.{needs}
 use Rattle.mixing.proofs.running.join.Statement.{statement}
 use Rattle.mixing.proofs.running.join.Tie as tie
@@ -10,18 +9,22 @@ add-smaller-requires c κs = search needs
 add-term-requires : tie.Need-add-term-requires
 add-term-requires c κs = search needs
 
-is-plain-requires : tie.Need-is-plain-requires
-is-plain-requires c κs = search needs
+sub-guess-total : tie.Need-sub-guess-total
+sub-guess-total c = search needs
+
+guess-total-requires : tie.Need-guess-total-requires
+guess-total-requires c κs = search needs
+
+is-total-requires : tie.Need-is-total-requires
+is-total-requires c κs = search needs
 
 join-even-plain-requires : tie.Need-join-even-plain-requires
 join-even-plain-requires c κs =
-    let test = c .before .before in
+    let test = c .before .before .before .before .before .before in
     let after = test .before .before .before .before .before in
     let sum = after .before .add-smaller .ensures in
     let pre = after .before .before .pre in
-    let some = test .before .before .if2 .taken in
-    let least = test .if3 .taken in
-    (pre .0, pre .1, pre .2, after .add-term .ensures, test .before .before .before .if1 .taken, sum .0, sum .1 some least, λ f. sum .2 some least f (c .before .is-plain .ensures (c .if4 .taken)))
+    (pre .0, pre .1, pre .2, after .add-term .ensures, test .before .before .before .if1 .taken, sum .0, sum .1 (test .before .before .if2 .taken) (test .if3 .taken), λ f. c .before .is-total .ensures (c .if5 .taken))
 
 returns : tie.Need-returns
 returns c = c .join-even-plain .ensures
@@ -46,4 +49,4 @@ returns-3 : tie.Need-returns-3
 returns-3 c = c .join-any .ensures
 
 pub join-spec : {M : Type 1} → statement M
-join-spec = tie.close (tie.spec add-smaller-requires add-term-requires is-plain-requires join-even-plain-requires returns join-even-requires returns-2 join-any-requires returns-3)
+join-spec = tie.close (tie.spec add-smaller-requires add-term-requires sub-guess-total guess-total-requires is-total-requires join-even-plain-requires returns join-even-requires returns-2 join-any-requires returns-3)

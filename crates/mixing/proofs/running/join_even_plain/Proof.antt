@@ -1,4 +1,4 @@
--- `running::join_even_plain` meets its contract (01, Mix): by one product, and by a total that lost nothing before.
+-- `running::join_even_plain` meets its contract (01, Mix): by one product, and by a total that is known.
 use mathlib.Core.Path.{_≡_, sym}
 use mathlib.Core.Bool.{true}
 use mathlib.Core.List.{List}
@@ -29,7 +29,7 @@ module _ (c : tie.After-total-of) where
   sum = start .args .heat
 
   abbrev temp : Float
-  temp = sum .s ⊘ c .total-of .result
+  temp = start .args .guess ⊘ c .total-of .result
 
   v-fits : T (fits binary64 (start .args .v))
   v-fits = passes _ (start .good .1 .1 .1 .0 .1)
@@ -48,7 +48,7 @@ joined-requires c κs = search needs
 
 returns : tie.Need-returns
 returns c =
-    let w = c .before .before .before .before .before .before in
+    let w = c .before .before .before .before .before in
     let pre = start w .pre in
     even-kept (start w .args .vol .now) (r w) (start w .args .i) (start w .args .v) (start w .args .next) (sum w) (start w .args .volume) (temp w) (v-fits w) (pre .0) (pre .2) (pre .3) (pre .4) (pre .5) (pre .6) (temp-is w) (c .joined .result) (c .before .add-known .result) (c .joined .ensures) (c .before .add-known .ensures) (c .before .before .if1 .taken)
 
@@ -63,7 +63,7 @@ joined-requires-2 c κs = search needs
 
 returns-2 : tie.Need-returns-2
 returns-2 c =
-    let w = c .before .before .before .before .before .before in
+    let w = c .before .before .before .before .before in
     let pre = start w .pre in
     even-anew (start w .args .vol .now) (r w) (start w .args .i) (start w .args .v) (start w .args .next) (sum w) (start w .args .volume) (temp w) (v-fits w) (pre .0) (pre .2) (pre .3) (pre .4) (pre .5) (pre .6) (temp-is w) (c .joined2 .result) (c .before .even-heat .result) (c .joined2 .ensures) (c .before .even-heat .ensures)
 
