@@ -201,7 +201,7 @@ fn join_even(
     )
 }
 
-// The same where the sums before it lost nothing: the heat's total is its s. It is written out, as a division that waits for either total takes the longer time of both.
+// The same where the heat's total is a guess that proved right. It is written out, as a division that waits for either total takes the longer time of both.
 fn join_even_plain(
     r: RunningGroup,
     vol: &[f64; MAX_LAYERS],
@@ -239,8 +239,9 @@ fn join_even_plain(
     )
 }
 
-fn guess_total(more: usize, p: f64, own: f64) -> f64
-{
+// The total of a layer's own heat and the heat p of each of more + 1 layers: one rounding gives what Sum2 gives, where a multiple of p and the rest are exact. It is a guess, and
+// 0 where there is none; it does not wait for a sum of the layers.
+fn guess_total(more: usize, p: f64, own: f64) -> f64 {
     if more == 0 {
         return p + own;
     }
@@ -262,6 +263,7 @@ fn guess_total(more: usize, p: f64, own: f64) -> f64
     0.0
 }
 
+// Whether a guess is the total.
 fn is_total(heat: Accumulator, guess: f64) -> bool
     ensures { λ q. ⌜ (q ≡ true → total heat ≡ guess) ⌝ }
 {
@@ -272,7 +274,7 @@ fn is_total(heat: Accumulator, guess: f64) -> bool
 }
 
 // The layer i + 1, of volume v and temperature `next`, joins the group. Where its volume is that of each, and its heat is above zero and at most the group's,
-// which most layers have, the shorter sums serve.
+// which most layers have, the shorter sums serve; where it is colder, the total is guessed.
 fn join(r: RunningGroup, vol: &[f64; MAX_LAYERS], i: usize, v: f64, next: f64) -> RunningGroup
     requires { ⌜ (r .bottom ≤ i) × (i + 1 < maxLayers) × (v ≡ getD (now vol) (i + 1) nan) ⌝ }
     ensures { λ q. ⌜ (q .bottom ≡ r .bottom) × ((n : ℕ) (first temps : List Float) → i + 1 < n → next ≡ getD temps (i + 1) nan → SaysJoins (r .temp) next true → Follows n (now (vol .entry)) first i temps r → Follows n (now (vol .entry)) first (i + 1) temps q) ⌝ }

@@ -15,5 +15,3 @@ pub mod FastTwoSum
 pub mod FourTerms
 pub mod EqualTerms
 pub mod Fourfold
-pub mod ExactError
-pub mod ExactTotal

@@ -74,18 +74,6 @@ unfolding add
 zero-plus f t n g p h =
     rw (zero-mul (down g), mul-one (n * up g), one-mul (down g)) (zero-sum f t (n * up g) (down g) (above-zero t n g (up g) (up-pos g) h) ∙ round-self f t n g p)
 
--- and -0 + x is x as well
-minus-zero-sum : (f : Format) (t : Bool) (b c : ℕ) → (t ≡ true → 0 < b) → sum f true 0 t b c ≡ round f t b c
-unfolding sum
-minus-zero-sum f true b c h = rw zero-add
-minus-zero-sum f false zero c h = rw (le-ltb 0 0 zero-le) refl
-minus-zero-sum f false (suc b) c h = rw (lt-ltb 0 (suc b) (zero-lt-suc b), sub-zero)
-
-pub minus-zero-plus : (f : Format) (t : Bool) (n : ℕ) (g : ℤ) → T (fits f (fin t n g)) → T (not (isMinusZero (fin t n g))) → add f (signed-zero true) (fin t n g) ≡ fin t n g
-unfolding add
-minus-zero-plus f t n g p h =
-    rw (zero-mul (down g), mul-one (n * up g), one-mul (down g)) (minus-zero-sum f t (n * up g) (down g) (above-zero t n g (up g) (up-pos g) h) ∙ round-self f t n g p)
-
 pub times-zero : (f : Format) (s : Bool) (m : ℕ) (e : ℤ) (t : Bool) → mul f (fin s m e) (signed-zero t) ≡ signed-zero (unlike s t)
 unfolding mul
 times-zero f s m e t = rw (zero-mul, mul-zero, mul-one) (round-zero f (unlike s t) (down e) (down-pos e))

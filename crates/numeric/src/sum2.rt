@@ -2,7 +2,7 @@
 ghost use mathlib.Core.Path.{_≡_};
 ghost use mathlib.Core.Bool.{true};
 ghost use Prim.Native.Nat.{ℕ, _≤_};
-ghost use lib.Ieee.{lt, le, eq};
+ghost use lib.Ieee.{lt, le};
 ghost use lib.Ieee.Scale.{finite};
 ghost use Rattle.numeric.specs.Double.{_⊕_, zero-f};
 ghost use Rattle.numeric.specs.Turns.{turns};
@@ -31,10 +31,9 @@ pub fn add_term(a: Accumulator, b: f64) -> Accumulator
     }
 }
 
-// A term above zero and at most s, by FastTwoSum: what the sum loses is b - (x - s). It is the same sum, where that is finite; and where nothing was lost before,
-// its total is s alone.
+// A term above zero and at most s, by FastTwoSum: what the sum loses is b - (x - s). It is the same sum, where that is finite.
 pub fn add_smaller(a: Accumulator, b: f64) -> Accumulator
-    ensures { λ r. ⌜ (r .s ≡ a .s ⊕ b) × (lt zero-f b ≡ true → le b (a .s) ≡ true → finite (r .s) ≡ true → r ≡ accumulate a b) × (lt zero-f b ≡ true → le b (a .s) ≡ true → finite (r .s) ≡ true → eq (a .c) zero-f ≡ true → total r ≡ r .s) ⌝ }
+    ensures { λ r. ⌜ (r .s ≡ a .s ⊕ b) × (lt zero-f b ≡ true → le b (a .s) ≡ true → finite (r .s) ≡ true → r ≡ accumulate a b) ⌝ }
 {
     let x = a.s + b;
     Accumulator {

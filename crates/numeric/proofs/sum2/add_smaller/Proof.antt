@@ -2,14 +2,13 @@
 use mathlib.Core.Path.{refl}
 use denote.Floats.{passes}
 use Rattle.numeric.proofs.FastTwoSum.{fast-two-sum}
-use Rattle.numeric.proofs.ExactTotal.{plain-total}
 use Rattle.numeric.proofs.sum2.add_smaller.Statement.{statement}
 use Rattle.numeric.proofs.sum2.add_smaller.Tie as tie
 
 returns : tie.Need-returns
 returns c =
     let start = c .before .before .before in
-    (refl, λ h l f. fast-two-sum (start .args .a) (start .args .b) (passes _ (start .good .0 .1 .1 .0 .1)) (passes _ (start .good .1 .0 .1)) h l (passes _ f), λ h l f z. plain-total (start .args .a) (start .args .b) (passes _ (start .good .0 .1 .1 .0 .1)) (passes _ (start .good .0 .1 .1 .1 .0 .1)) (passes _ (start .good .1 .0 .1)) h l z (passes _ f))
+    (refl, λ h l f. fast-two-sum (start .args .a) (start .args .b) (passes _ (start .good .0 .1 .1 .0 .1)) (passes _ (start .good .1 .0 .1)) h l (passes _ f))
 
 pub add-smaller-spec : {M : Type 1} → statement M
 add-smaller-spec = tie.close (tie.spec returns)
