@@ -1,6 +1,6 @@
 -- Proves that a term above zero and at most s may be added to a Sum2 by FastTwoSum (01, Arithmetic underneath): what the sum x loses is b - (x - s), since
 -- x - (x - s) is s by Sterbenz's lemma.
-use mathlib.Core.Path.{_≡_, refl, sym, ap, _∙_}
+use mathlib.Core.Path.{_≡_, refl, sym, _∙_}
 use mathlib.Core.Bool.{true, false, not, true≢false}
 use Prim.Native.Nat.{ℕ, zero, suc, _+_, _*_}
 use native.Mathlib.Nat.{zero-lt-suc, le-refl}

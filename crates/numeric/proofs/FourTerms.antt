@@ -1,13 +1,12 @@
 -- Proves what a Sum2 of four equal terms p loses where p + p + p + p, rounded at each sum, is 4 p (01, Arithmetic underneath): nothing. What the third sum loses, the
 -- fourth gives back: the two errors are opposite.
 use mathlib.Core.Path.{_≡_, refl, sym, ap, _∙_, subst}
-use mathlib.Core.Logic.{⊎-elim, inl, inr}
+use mathlib.Core.Logic.{⊎-elim}
 use mathlib.Core.Bool.{Bool, true, false, not}
-use Prim.Native.Nat.{ℕ, zero, suc, _+_, _-_, _*_, _^_, _≤_, _<_, zero-le}
-use native.Mathlib.Nat.{le-refl, mul-le-mul-right, eq-or-lt-of-le}
+use Prim.Native.Nat.{ℕ, _+_, _-_, _≤_, _<_, zero-le}
+use native.Mathlib.Nat.{mul-le-mul-right, eq-or-lt-of-le}
 use native.Mathlib.Omega.{arith}
 use lib.Dec.{T, ltb, ltb→lt, nltb→le}
-use lib.IntN.{pos}
 use lib.Pow.{pow-pos}
 use lib.Ieee.{Float, nan, inf, fin, binary64, low, round, add, sub, neg, le, fits, ofBits}
 use lib.Ieee.Fits.{add-fits, sub-fits, neg-fits}
@@ -17,14 +16,12 @@ use lib.Ieee.Positive.{positive, positive-of-value}
 use lib.Ieee.Scale.{finite}
 use denote.Floats.{is-true}
 use Rattle.numeric.specs.Double.{_⊕_, _⊖_, zero-f}
-use Rattle.numeric.proofs.Rounding.{unique}
 use Rattle.numeric.proofs.Difference.{round-none, minus-self}
 use Rattle.numeric.proofs.Within.{minus-round}
 use Rattle.numeric.proofs.Zeros.{isMinusZero, add-not-minus, in-order}
-use Rattle.numeric.proofs.Sterbenz.{unit, top, Units, rounds-to, difference, below-difference, exact-gap, total, twice-short, sum-units, units-at}
+use Rattle.numeric.proofs.Sterbenz.{unit, top, Units, rounds-to, difference, below-difference, exact-gap, total, twice-short, sum-units}
 use Rattle.numeric.proofs.FastTwoSum.{nothing-plus, positive-some, fast}
 use Rattle.numeric.proofs.Finite.{sum-parts-finite}
-use Rattle.numeric.specs.declared.sum2.Accumulator.{Accumulator}
 
 abbrev u : ℕ
 u = unit binary64

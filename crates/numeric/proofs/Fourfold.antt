@@ -4,12 +4,12 @@ use mathlib.Core.Path.{_≡_, refl, sym, ap, _∙_, subst}
 use mathlib.Core.Logic.{_⊎_, ⊎-elim, inl, inr}
 use mathlib.Core.Bool.{Bool, true, false, not}
 use Prim.Native.Nat.{ℕ, zero, suc, _+_, _-_, _*_, _/_, _%_, _^_, _≤_, _<_, compare, Ordering, Ordering·lt, Ordering·eq, Ordering·gt}
-use native.Mathlib.Nat.{lt-irrefl, mul-add-div-right, mul-add-mod-self-right, div-eq-of-lt, mod-eq-of-lt, mod-lt, div-add-mod', add-zero, zero-lt-suc, eq-or-lt-of-le, eq-of-mul-eq-mul-right, mul-div-cancel, mul-pos, mul-assoc, mul-le-mul-right, mul-le-mul-left, mul-lt-mul-of-pos-right, le-trans, le-of-eq, le-of-suc-le-suc, lt-of-not-le, not-le-of-lt, lt-of-lt-of-le}
+use native.Mathlib.Nat.{mul-add-div-right, mul-add-mod-self-right, div-eq-of-lt, mod-eq-of-lt, mod-lt, div-add-mod', add-zero, zero-lt-suc, eq-or-lt-of-le, eq-of-mul-eq-mul-right, mul-div-cancel, mul-pos, mul-assoc, mul-le-mul-right, mul-le-mul-left, mul-lt-mul-of-pos-right, le-trans, le-of-eq, le-of-suc-le-suc, lt-of-not-le, not-le-of-lt, lt-of-lt-of-le}
 use native.Mathlib.Omega.{arith}
 use lib.Dec.{T, leb, isLe, isEq, leb→le, nleb→lt, eqb→eq, eqb, eqb-refl}
 use lib.Arith.{lt-of-le-ne}
 use lib.Pow.{pow-add, pow-pos, pow-mono}
-use lib.Ieee.{Float, binary64, low, size, nearest, units, round}
+use lib.Ieee.{binary64, low, size, nearest, units, round}
 use lib.Ieee.Digits.{size-lt, size-le, size-reaches}
 use lib.Ieee.Fits.{round-is, round-fits}
 use lib.Ieee.Exact.{HasValue, units-val}
@@ -17,7 +17,7 @@ use lib.Ieee.Nearest.{closest, closest-same}
 use lib.Ieee.Scale.{grid}
 use native.Mathlib.Numerals.{add-one}
 use Rattle.numeric.proofs.Rounding.{unique}
-use Rattle.numeric.proofs.Sterbenz.{unit, top, Short, rounds-to, twice-short, raised}
+use Rattle.numeric.proofs.Sterbenz.{unit, top, Short, rounds-to, raised}
 
 -- ---- what `compare` says
 abbrev pub Says : Ordering → ℕ → ℕ → Type 0

@@ -1,9 +1,8 @@
 -- `running::is_total` meets its contract (01, Arithmetic underneath): what equals a number above zero is that number.
-use mathlib.Core.Path.{_≡_, sym, _∙_, subst}
+use mathlib.Core.Path.{_≡_, sym, subst}
 use mathlib.Core.Logic.{inl, inr}
 use mathlib.Core.Bool.{Bool, true, false, true≢false}
-use lib.Dec.{T}
-use lib.Ieee.{Float, binary64, lt, eq, fits, ofBits}
+use lib.Ieee.{Float, binary64, lt, eq, ofBits}
 use lib.Ieee.Fits.{add-fits}
 use denote.Floats.{passes}
 use Rattle.numeric.specs.Double.{zero-f}

@@ -13,7 +13,7 @@ use lib.Ieee.Scale.{finite}
 use denote.Floats.{passes}
 use Rattle.numeric.specs.Double.{_⊕_, _⊛_, _⊘_, zero-f}
 use Rattle.numeric.specs.Zeros.{SameValue}
-use Rattle.numeric.specs.Sum2.{accumulate, total}
+use Rattle.numeric.specs.Sum2.{accumulate}
 use Rattle.numeric.specs.declared.sum2.Accumulator.{Accumulator}
 use Rattle.mixing.specs.Running.{heatSum, SaysJoins, joinedGroup, AsDefined, Follows}
 use Rattle.mixing.specs.declared.running.RunningGroup.{RunningGroup}

@@ -1,8 +1,6 @@
 -- `running::join_even_plain` meets its contract (01, Mix): by one product, and by a total that is known.
 use mathlib.Core.Path.{_≡_, sym}
 use mathlib.Core.Bool.{true}
-use mathlib.Core.List.{List}
-use Prim.Native.Nat.{ℕ}
 use lib.Dec.{T}
 use lib.Ieee.{Float, binary64, fits}
 use lib.Ieee.Scale.{finite}
