@@ -1,7 +1,7 @@
 -- Proves when the heat of a running group, kept from the pair before, serves at its new temperature (01, Mix): where each layer's volume × temperature is what it
 -- was. One product tells, where the volumes are equal; otherwise the temperature must be the same.
 use mathlib.Core.Path.{_≡_, sym, _∙_, subst}
-use mathlib.Core.Logic.{_⊎_, ⊎-elim}
+use mathlib.Core.Logic.{_⊎_, ⊎-elim, inl, inr}
 use mathlib.Core.Bool.{true, not, true≢false}
 use mathlib.Core.List.{List}
 use Prim.Native.Nat.{ℕ, _+_, _-_, _≤_, _<_}
@@ -12,13 +12,15 @@ use lib.ListN.{getD}
 use lib.Ieee.{Float, nan, inf, fin, binary64, fits, eq, isNan}
 use lib.Ieee.Fits.{mul-fits}
 use lib.Ieee.Scale.{finite}
+use denote.Floats.{is-true}
 use Rattle.numeric.specs.Double.{_⊛_}
 use Rattle.numeric.specs.Zeros.{SameValue}
-use Rattle.numeric.specs.Sum2.{nothing-added, accumulate}
+use Rattle.numeric.specs.Turns.{turns}
+use Rattle.numeric.specs.Sum2.{nothing-added, accumulate, sumTurn}
 use Rattle.numeric.specs.declared.sum2.Accumulator.{Accumulator}
 use Rattle.numeric.proofs.Finite.{product-parts-finite}
-use Rattle.numeric.proofs.SameValue.{equal-same, same-back, same-through, same-finite, same-left, same-right}
-use Rattle.numeric.proofs.Members.{Stable, stable-start, stable-terms, same-term, same-members, term-finite}
+use Rattle.numeric.proofs.SameValue.{equal-same, same-back, same-through, same-finite, same-left, same-right, same-factor}
+use Rattle.numeric.proofs.Members.{Stable, stable-start, stable-terms, same-term, same-members, term-finite, members-finite}
 use Rattle.mixing.specs.Running.{heatSum, AsDefined}
 use Rattle.mixing.specs.declared.running.RunningGroup.{RunningGroup}
 use Rattle.mixing.proofs.Members.{heat-more}
@@ -80,3 +82,12 @@ module _ (n : ℕ) (vol first : List Float) (i : ℕ) (temps : List Float) (r : 
         (grown (λ (k : ℕ). SameValue (getD vol k nan ⊛ r .temp) (getD vol k nan ⊛ x))
         (λ k l u. same-right (getD vol k nan) (r .temp) x (product-parts-finite (getD vol k nan) (r .temp) (d .group-finite k l u) .0) same)
         (rw (← at) (same-right v (r .temp) x (product-parts-finite v (r .temp) product-finite .0) same)))
+
+  -- the volumes are equal, and the heat is a sum of one product
+  pub equal-heat : T (fits binary64 v) → eq v (r .each) ≡ true → (x : Float) (q : Accumulator) → (q ≡ heatSum vol x (r .bottom) (i + 2)) ⊎ (finite (q .s) ≡ true → q ≡ turns (sumTurn (λ (k : ℕ). v ⊛ x)) (i + 2 - r .bottom) (r .bottom) nothing-added) → T (finite (q .s)) → q ≡ heatSum vol x (r .bottom) (i + 2)
+  equal-heat vf ve x q (inl e) f = e
+  equal-heat vf ve x q (inr e) f =
+      let is = e (is-true (finite (q .s)) f) in
+      let xf = product-parts-finite v x (members-finite (λ (k : ℕ). v ⊛ x) (i + 2 - r .bottom) (r .bottom) (subst (λ (a : Accumulator). T (finite (a .s))) is f) (r .bottom) (omega arith, omega arith)) .1 in
+      let same : (k : ℕ) → r .bottom ≤ k → k < i + 2 → SameValue v (getD vol k nan) = λ k l u. same-through v (r .each) (getD vol k nan) (v-each vf ve) (same-back (getD vol k nan) (r .each) (each-more vf ve k l u)) in
+      is ∙ same-members (λ (k : ℕ). v ⊛ x) (λ (k : ℕ). getD vol k nan ⊛ x) (i + 2 - r .bottom) (r .bottom) (λ j w. (same-factor v (getD vol j nan) x xf (same j (w .0) (omega arith)), mul-fits binary64 (getD vol j nan) x))

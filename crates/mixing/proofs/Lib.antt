@@ -15,3 +15,4 @@ pub mod Written
 pub mod Joining
 pub mod KeptHeat
 pub mod Parting
+pub mod Even

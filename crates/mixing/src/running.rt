@@ -4,11 +4,14 @@ ghost use mathlib.Core.Path.{_≡_};
 ghost use mathlib.Core.Logic.{_⊎_};
 ghost use mathlib.Core.Bool.{true, false, cond};
 ghost use mathlib.Core.List.{List};
-ghost use Prim.Native.Nat.{ℕ, _+_, _≤_, _<_};
+ghost use Prim.Native.Nat.{ℕ, _+_, _-_, _≤_, _<_};
 ghost use lib.ListN.{getD};
-ghost use lib.Ieee.{Float, nan, le};
+ghost use lib.Ieee.{Float, nan, le, eq};
+ghost use lib.Ieee.Scale.{finite};
+ghost use Rattle.numeric.specs.Double.{_⊕_, _⊛_, _⊘_, zero-f, one-f};
 ghost use Rattle.numeric.specs.Zeros.{SameValue};
-ghost use Rattle.numeric.specs.Sum2.{accumulate};
+ghost use Rattle.numeric.specs.Turns.{turns};
+ghost use Rattle.numeric.specs.Sum2.{nothing-added, accumulate, sumTurn, total};
 ghost use Rattle.mixing.specs.Limits.{maxLayers};
 ghost use Rattle.mixing.specs.Round.{oneRound};
 ghost use Rattle.mixing.specs.Rearrange.{isSorted};
@@ -70,15 +73,35 @@ fn heat_at(vol: &[f64; MAX_LAYERS], bottom: usize, end: usize, x: f64) -> Accumu
     heat
 }
 
-// The sum of a and b, where the sum of a and c is at hand: it serves where c equals b.
+// The same where each layer's product is p: from p alone, where that is above zero.
+fn even_heat(vol: &[f64; MAX_LAYERS], bottom: usize, end: usize, x: f64, p: f64) -> Accumulator
+    requires { ⌜ (bottom < end) × (end ≤ maxLayers) ⌝ }
+    ensures { λ r. ⌜ (r ≡ heatSum (now (vol .entry)) x bottom end) ⊎ (finite (r .s) ≡ true → r ≡ turns (sumTurn (λ (k : ℕ). p)) (end - bottom) bottom nothing-added) ⌝ }
+{
+    if p > 0.0 {
+        return numeric::sum2::equal_terms(p, end - bottom);
+    }
+    heat_at(vol, bottom, end, x)
+}
+
+// The sum of a and b, where the sum of a and c is known: it serves where c equals b.
 fn add_known(a: Accumulator, b: f64, c: f64, known: Accumulator) -> Accumulator
-    requires { ⌜ known ≡ accumulate a c ⌝ }
-    ensures { λ r. ⌜ (r ≡ accumulate a b) ⊎ ((r ≡ accumulate a c) × SameValue c b) ⌝ }
+    ensures { λ r. ⌜ (r ≡ accumulate a b) ⊎ ((r ≡ known) × SameValue c b) ⌝ }
 {
     if c == b {
         return known;
     }
     numeric::sum2::add_term(a, b)
+}
+
+// The volume of each layer, with one of volume v more.
+fn each_with(each: f64, v: f64) -> f64
+    ensures { λ r. ⌜ ((r ≡ each) × (eq v each ≡ true)) ⊎ (r ≡ zero-f ⊘ zero-f) ⌝ }
+{
+    if v == each {
+        return each;
+    }
+    0.0 / 0.0
 }
 
 // The group with one layer more, at its new temperature.
@@ -104,47 +127,31 @@ fn joined(
     }
 }
 
-// The layer i + 1, of volume v and temperature `next`, joins the group. The heat at the group's new temperature goes on from what is kept where each
-// layer's product is what it was: one product tells, where the volumes are equal; otherwise the temperature must be the same.
-fn join(r: RunningGroup, vol: &[f64; MAX_LAYERS], i: usize, v: f64, next: f64) -> RunningGroup
-    requires { ⌜ (r .bottom ≤ i) × (i + 1 < maxLayers) × (v ≡ getD (now vol) (i + 1) nan) ⌝ }
+// The layer i + 1, of volume v and temperature `next`, joins the group; `volume` is the group's with it. The heat at the group's new temperature goes on from
+// what is kept where the temperature is what it was; otherwise it is worked anew.
+fn join_any(
+    r: RunningGroup,
+    vol: &[f64; MAX_LAYERS],
+    i: usize,
+    v: f64,
+    next: f64,
+    volume: Accumulator,
+) -> RunningGroup
+    requires { ⌜ (r .bottom ≤ i) × (i + 1 < maxLayers) × (v ≡ getD (now vol) (i + 1) nan) × (volume ≡ accumulate (r .volume) (v ⊛ one-f)) ⌝ }
     ensures { λ q. ⌜ (q .bottom ≡ r .bottom) × ((n : ℕ) (first temps : List Float) → i + 1 < n → next ≡ getD temps (i + 1) nan → SaysJoins (r .temp) next true → Follows n (now (vol .entry)) first i temps r → Follows n (now (vol .entry)) first (i + 1) temps q) ⌝ }
 {
     let own = v * next;
-    let product = v * r.temp;
     let heat = numeric::sum2::add_term(r.heat, own);
-    // A volume counts times 1, as the definition has it; the compiled code leaves that out.
-    let volume = numeric::sum2::add_term(r.volume, v * 1.0);
     let temp = numeric::sum2::total_of(heat) / numeric::sum2::total_of(volume);
-    let met = r.met + own;
-    if v == r.each {
-        if v * temp == product {
-            return joined(
-                r,
-                temp,
-                add_known(r.heat, product, own, heat),
-                volume,
-                r.each,
-                met,
-            );
-        }
-        return joined(
-            r,
-            temp,
-            heat_at(vol, r.bottom, i + 2, temp),
-            volume,
-            r.each,
-            met,
-        );
-    }
-    let differ = 0.0 / 0.0;
+    let met = r.met + heat.s;
+    let each = each_with(r.each, v);
     if temp == r.temp {
         return joined(
             r,
             temp,
-            add_known(r.heat, product, own, heat),
+            add_known(r.heat, v * r.temp, own, heat),
             volume,
-            differ,
+            each,
             met,
         );
     }
@@ -153,9 +160,144 @@ fn join(r: RunningGroup, vol: &[f64; MAX_LAYERS], i: usize, v: f64, next: f64) -
         temp,
         heat_at(vol, r.bottom, i + 2, temp),
         volume,
-        differ,
+        each,
         met,
     )
+}
+
+// The same where each layer has the volume v, and `heat` is the group's with the layer's own: one product tells whether all are what they were.
+fn join_even(
+    r: RunningGroup,
+    vol: &[f64; MAX_LAYERS],
+    i: usize,
+    v: f64,
+    next: f64,
+    heat: Accumulator,
+    volume: Accumulator,
+) -> RunningGroup
+    requires { ⌜ (r .bottom ≤ i) × (i + 1 < maxLayers) × (v ≡ getD (now vol) (i + 1) nan) × (volume ≡ accumulate (r .volume) (v ⊛ one-f)) × (eq v (r .each) ≡ true) × (heat .s ≡ r .heat .s ⊕ (v ⊛ next)) × (finite (heat .s) ≡ true → heat ≡ accumulate (r .heat) (v ⊛ next)) ⌝ }
+    ensures { λ q. ⌜ (q .bottom ≡ r .bottom) × ((n : ℕ) (first temps : List Float) → i + 1 < n → next ≡ getD temps (i + 1) nan → SaysJoins (r .temp) next true → Follows n (now (vol .entry)) first i temps r → Follows n (now (vol .entry)) first (i + 1) temps q) ⌝ }
+{
+    let product = v * r.temp;
+    let temp = numeric::sum2::total_of(heat) / numeric::sum2::total_of(volume);
+    let met = r.met + heat.s;
+    if v * temp == product {
+        return joined(
+            r,
+            temp,
+            add_known(r.heat, product, v * next, heat),
+            volume,
+            r.each,
+            met,
+        );
+    }
+    joined(
+        r,
+        temp,
+        even_heat(vol, r.bottom, i + 2, temp, v * temp),
+        volume,
+        r.each,
+        met,
+    )
+}
+
+// The same where the heat's total is a guess that proved right. It is written out, as a division that waits for either total takes the longer time of both.
+fn join_even_plain(
+    r: RunningGroup,
+    vol: &[f64; MAX_LAYERS],
+    i: usize,
+    v: f64,
+    next: f64,
+    heat: Accumulator,
+    volume: Accumulator,
+    guess: f64,
+) -> RunningGroup
+    requires { ⌜ (r .bottom ≤ i) × (i + 1 < maxLayers) × (v ≡ getD (now vol) (i + 1) nan) × (volume ≡ accumulate (r .volume) (v ⊛ one-f)) × (eq v (r .each) ≡ true) × (heat .s ≡ r .heat .s ⊕ (v ⊛ next)) × (finite (heat .s) ≡ true → heat ≡ accumulate (r .heat) (v ⊛ next)) × (finite (heat .s) ≡ true → total heat ≡ guess) ⌝ }
+    ensures { λ q. ⌜ (q .bottom ≡ r .bottom) × ((n : ℕ) (first temps : List Float) → i + 1 < n → next ≡ getD temps (i + 1) nan → SaysJoins (r .temp) next true → Follows n (now (vol .entry)) first i temps r → Follows n (now (vol .entry)) first (i + 1) temps q) ⌝ }
+{
+    let product = v * r.temp;
+    let temp = guess / numeric::sum2::total_of(volume);
+    let met = r.met + heat.s;
+    let p = v * temp;
+    if p == product {
+        return joined(
+            r,
+            temp,
+            add_known(r.heat, product, v * next, heat),
+            volume,
+            r.each,
+            met,
+        );
+    }
+    joined(
+        r,
+        temp,
+        even_heat(vol, r.bottom, i + 2, temp, p),
+        volume,
+        r.each,
+        met,
+    )
+}
+
+// The total of a layer's own heat and the heat p of each of more + 1 layers: one rounding gives what Sum2 gives, where a multiple of p and the rest are exact. It is a guess, and
+// 0 where there is none; it does not wait for a sum of the layers.
+fn guess_total(more: usize, p: f64, own: f64) -> f64 {
+    if more == 0 {
+        return p + own;
+    }
+    if more == 1 {
+        return 2.0 * p + own;
+    }
+    if more == 2 {
+        return 4.0 * p + (own - p);
+    }
+    if more == 3 {
+        return 4.0 * p + own;
+    }
+    if more == 6 {
+        return 8.0 * p + (own - p);
+    }
+    if more == 7 {
+        return 8.0 * p + own;
+    }
+    0.0
+}
+
+// Whether a guess is the total.
+fn is_total(heat: Accumulator, guess: f64) -> bool
+    ensures { λ q. ⌜ (q ≡ true → total heat ≡ guess) ⌝ }
+{
+    if guess > 0.0 {
+        return numeric::sum2::total_of(heat) == guess;
+    }
+    false
+}
+
+// The layer i + 1, of volume v and temperature `next`, joins the group. Where its volume is that of each, and its heat is above zero and at most the group's,
+// which most layers have, the shorter sums serve; where it is colder, the total is guessed.
+fn join(r: RunningGroup, vol: &[f64; MAX_LAYERS], i: usize, v: f64, next: f64) -> RunningGroup
+    requires { ⌜ (r .bottom ≤ i) × (i + 1 < maxLayers) × (v ≡ getD (now vol) (i + 1) nan) ⌝ }
+    ensures { λ q. ⌜ (q .bottom ≡ r .bottom) × ((n : ℕ) (first temps : List Float) → i + 1 < n → next ≡ getD temps (i + 1) nan → SaysJoins (r .temp) next true → Follows n (now (vol .entry)) first i temps r → Follows n (now (vol .entry)) first (i + 1) temps q) ⌝ }
+{
+    let own = v * next;
+    let heat = numeric::sum2::add_smaller(r.heat, own);
+    // A volume counts times 1, as the definition has it; the compiled code leaves that out.
+    let volume = numeric::sum2::add_term(r.volume, v * 1.0);
+    if v == r.each {
+        if own > 0.0 {
+            if own <= r.heat.s {
+                let product = v * r.temp;
+                if own < product {
+                    let guess = guess_total(i - r.bottom, product, own);
+                    if is_total(heat, guess) {
+                        return join_even_plain(r, vol, i, v, next, heat, volume, guess);
+                    }
+                }
+                return join_even(r, vol, i, v, next, heat, volume);
+            }
+        }
+    }
+    join_any(r, vol, i, v, next, volume)
 }
 
 // A group of the one layer i, of volume v.

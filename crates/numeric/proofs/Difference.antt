@@ -10,7 +10,7 @@ use lib.Ieee.Fits.{down-pos}
 use lib.Ieee.Scale.{round-same, finite}
 use Rattle.numeric.specs.Double.{_⊖_, zero-f}
 
-round-none : (d : ℕ) → 0 < d → round binary64 false 0 d ≡ zero-f
+pub round-none : (d : ℕ) → 0 < d → round binary64 false 0 d ≡ zero-f
 unfolding round ofBits
 round-none d h = round-same binary64 false 0 d 0 1 h (zero-lt-suc 0) (simp zero-mul) ∙ refl
 

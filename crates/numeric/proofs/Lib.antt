@@ -10,3 +10,8 @@ pub mod Finite
 pub mod SameValue
 pub mod Members
 pub mod Within
+pub mod Sterbenz
+pub mod FastTwoSum
+pub mod FourTerms
+pub mod EqualTerms
+pub mod Fourfold

@@ -43,7 +43,7 @@ unique f (fin t m e) (fin u n g) s a c C p q v w =
 pow-le-back : (a l : ℕ) → 2 ^ a ≤ 2 ^ l → a ≤ l
 pow-le-back a l h = le-of-suc-le-suc (lt-of-not-le (λ (g : suc l ≤ a). lt-irrefl (2 ^ l) (lt-of-lt-of-le (pow-lt g) h)))
 
-in-units : (l : ℕ) (e : ℤ) → down e ≤ 2 ^ l → (j : ℕ) × ((m : ℕ) → m * up e * 2 ^ l ≡ m * 2 ^ j * down e)
+pub in-units : (l : ℕ) (e : ℤ) → down e ≤ 2 ^ l → (j : ℕ) × ((m : ℕ) → m * up e * 2 ^ l ≡ m * 2 ^ j * down e)
 in-units l (pos a) h = (a + l, λ m. mul-assoc m (2 ^ a) (2 ^ l) ∙ ap (λ (x : ℕ). m * x) (sym (pow-add 2 a l)) ∙ sym (mul-one (m * 2 ^ (a + l))))
 in-units l (negsuc a) h =
     let le : suc a ≤ l = pow-le-back (suc a) l h in (
@@ -54,7 +54,7 @@ in-units l (negsuc a) h =
           ∙ sym (mul-assoc m (2 ^ (l - suc a)) (2 ^ suc a)),
     )
 
-in-range : (m u d l E j : ℕ) → 0 < d → m * u < 2 ^ E * d → m * u * 2 ^ l ≡ m * 2 ^ j * d → m * 2 ^ j < 2 ^ (l + E)
+pub in-range : (m u d l E j : ℕ) → 0 < d → m * u < 2 ^ E * d → m * u * 2 ^ l ≡ m * 2 ^ j * d → m * 2 ^ j < 2 ^ (l + E)
 in-range m u d l E j D h e =
     lt-of-mul-lt-mul-right d
     (subst (λ (x : ℕ). x < 2 ^ (l + E) * d) e

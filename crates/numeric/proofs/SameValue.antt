@@ -118,3 +118,8 @@ same-right v x y f (inr z) = inr (zero-product-right v x f (z .0), zero-product-
 pub same-left : (v w x y : Float) → T (finite x) → T (finite y) → SameValue v w → SameValue (w ⊛ x) (w ⊛ y) → SameValue (v ⊛ x) (v ⊛ y)
 same-left v w x y f g (inl e) h = rw e h
 same-left v w x y f g (inr z) h = inr (zero-product-left v x (z .0) f, zero-product-left v y (z .0) g)
+
+-- the first factor may be either of two that are the same
+pub same-factor : (v w x : Float) → T (finite x) → SameValue v w → SameValue (v ⊛ x) (w ⊛ x)
+same-factor v w x f (inl e) = inl (ap (λ (z : Float). z ⊛ x) e)
+same-factor v w x f (inr z) = inr (zero-product-left v x (z .0) f, zero-product-left w x (z .1) f)

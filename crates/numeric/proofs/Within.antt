@@ -35,7 +35,7 @@ minus-units f q k = go (ltb (q * 2 ^ k) (2 ^ (low f + suc (emax f))))
     go true = minus-odd (suc (prec f)) q k (low f)
     go false = (refl, unfold neg in refl)
 
-minus-round : (f : Format) (a c : ℕ) → Minus (round f true a c) × (neg (round f true a c) ≡ round f false a c)
+pub minus-round : (f : Format) (a c : ℕ) → Minus (round f true a c) × (neg (round f true a c) ≡ round f false a c)
 unfolding round
 minus-round f a c = minus-units f _ _
 

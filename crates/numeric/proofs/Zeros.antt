@@ -104,7 +104,7 @@ divides-larger i j x h = subst (λ (z : ℕ). 2 ^ i ∣ z) (mul-assoc x (2 ^ (j 
 at-least : (i j g l : ℕ) → 0 < g → 2 ^ i ∣ g → 2 ^ j ≤ l → 2 ^ i * 2 ^ j ≤ g * l
 at-least i j g l G d h = mul-le-mul (le-of-dvd G d) h
 
-in-order : (i j : ℕ) → (i ≤ j) ⊎ (j ≤ i)
+pub in-order : (i j : ℕ) → (i ≤ j) ⊎ (j ≤ i)
 in-order i j = go (leb i j) (leb→le i j) (nleb→lt i j)
   where
     go : (b : Bool) → (T b → i ≤ j) → (T (not b) → j < i) → (i ≤ j) ⊎ (j ≤ i)

@@ -34,6 +34,12 @@ zero-f = dbl 0x0000_0000_0000_0000
 abbrev pub one-f : Float
 one-f = dbl 0x3ff0_0000_0000_0000
 
+abbrev pub four-f : Float
+four-f = dbl 0x4010_0000_0000_0000
+
+abbrev pub five-f : Float
+five-f = dbl 0x4014_0000_0000_0000
+
 -- the tolerances of Close: 1e-9 of the larger magnitude; narrow, 2^-52; wide, 1e-10
 abbrev pub relative-tolerance : Float
 relative-tolerance = dbl 0x3e11_2e0b_e826_d695

@@ -1,4 +1,5 @@
 -- `running::add_known` meets its contract (01, Arithmetic underneath): equal terms are the same but for the sign of a zero.
+use mathlib.Core.Path.{refl}
 use mathlib.Core.Logic.{inl, inr}
 use denote.Floats.{passes}
 use borrow.Author.Needs.{needs}
@@ -9,7 +10,7 @@ use Rattle.mixing.proofs.running.add_known.Tie as tie
 returns : tie.Need-returns
 returns c =
     let a = c .before in
-    inr (a .pre, equal-same (a .args .c) (a .args .b) (passes _ (a .good .1 .1 .0 .1)) (passes _ (a .good .1 .0 .1)) (c .if1 .taken))
+    inr (refl, equal-same (a .args .c) (a .args .b) (passes _ (a .good .1 .1 .0 .1)) (passes _ (a .good .1 .0 .1)) (c .if1 .taken))
 
 add-term-requires : tie.Need-add-term-requires
 add-term-requires c κs = search needs
