@@ -31,16 +31,6 @@ lack-finite (inf false) (inf s) n l = absurd (true≢false (sym l))
 lack-finite (inf false) (fin s m e) n l = absurd (true≢false (sym l))
 lack-finite (fin s m e) y n l = refl
 
-zero-not-above : (s : Bool) → lt zero-f (signed-zero s) ≡ false
-unfolding lt ofBits
-zero-not-above true = refl
-zero-not-above false = refl
-
--- two doubles that are equal, the second above zero, are the same
-pub same-above : (x y : Float) → SameValue x y → lt zero-f y ≡ true → x ≡ y
-same-above x y (inl e) l = e
-same-above x y (inr z) l = absurd (true≢false (sym (rw (z .1 .1) at l) ∙ zero-not-above (z .1 .0)))
-
 -- a place that has a double above zero is there
 place-there : (xs : List Float) (d : ℕ) → lt zero-f (getD xs d nan) ≡ true → d < length xs
 unfolding lt ofBits

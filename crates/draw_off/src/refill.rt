@@ -97,21 +97,14 @@ fn does_enter_warmer(feed: f64, f: LayerFilling) -> bool
     false
 }
 
-// Equal doubles are the same where they are above zero.
-fn is_same(x: f64, y: f64) -> bool
-    ensures { λ r. ⌜ (r ≡ true → lt zero-f y ≡ true → x ≡ y) ⌝ }
-{
-    x == y
-}
-
 // A layer of the volume v holds all of it.
 fn is_full(full: f64, v: f64, held: f64) -> bool
     ensures { λ r. ⌜ (r ≡ true → lt zero-f full ≡ true → (v ≡ full) × (held ≡ full)) ⌝ }
 {
-    if !is_same(v, full) {
+    if !numeric::compare::is_same(v, full) {
         return false;
     }
-    is_same(held, full)
+    numeric::compare::is_same(held, full)
 }
 
 // Whether full layers below a layer that holds `held` come, one after the other, to lack what it lacks.
@@ -131,7 +124,7 @@ fn does_repeat(full: f64, held: f64) -> bool
     if !(held > 0.0) {
         return false;
     }
-    is_same(full - lack, held)
+    numeric::compare::is_same(full - lack, held)
 }
 
 // Layers that repeat, from the one under n down, each over a full one. Their volumes are worked once, and no layer waits for the one above it.

@@ -1,14 +1,14 @@
 -- States what the code keeps while a round runs (01, Mix), and what that says of the round as Round defines it. No definition of a call cites this: it stands in
 -- the contracts of the functions that work a round, and a round that they work is proved to be `oneRound`.
 use Prim.Native.Nat.{ℕ, zero, suc, _+_, _-_, _≤_, _<_}
-use mathlib.Core.Bool.{Bool, true, not}
+use mathlib.Core.Bool.{Bool, true, not, cond}
 use mathlib.Core.Path.{_≡_}
 use mathlib.Core.List.{List}
-use lib.Dec.{T}
+use lib.Dec.{T, eqb}
 use lib.ListN.{getD}
-use lib.Ieee.{Float, nan, inf, binary64, fits, isNan}
+use lib.Ieee.{Float, nan, inf, binary64, fits, isNan, neg}
 use lib.Ieee.Scale.{finite}
-use Rattle.numeric.specs.Double.{_⊕_, _⊛_, one-f}
+use Rattle.numeric.specs.Double.{_⊕_, _⊛_, one-f, dbl, _⊖_, zero-f, four-f}
 use Rattle.numeric.specs.Zeros.{SameValue}
 use Rattle.numeric.specs.Turns.{turns}
 use Rattle.numeric.specs.Holds.{holds}
@@ -25,6 +25,23 @@ volumeSum vol bottom end = turns (sumTurn (λ (k : ℕ). getD vol k nan ⊛ one-
 -- volume × temperature, where all of them have the temperature x
 abbrev pub heatSum : List Float → Float → ℕ → ℕ → Accumulator
 heatSum vol x bottom end = turns (sumTurn (λ (k : ℕ). getD vol k nan ⊛ x)) (end - bottom) bottom nothing-added
+
+-- a guess at the total of a layer's own heat and the heat p of each of more + 1 layers. Nothing rests on it: it is used where the total is the same.
+-- h is a multiple of p, a and b are multiples that lose nothing: b ⊖ (h ⊖ a) is what h has lost
+abbrev pub withLoss : Float → Float → Float → Float → Float
+withLoss h a b x = h ⊕ (b ⊖ (h ⊖ a) ⊕ x)
+
+unfoldable pub guessedTotal : ℕ → Float → Float → Float
+guessedTotal more p own =
+    cond (eqb more 0) (p ⊕ own)
+    (cond (eqb more 1) (dbl 0x4000_0000_0000_0000 ⊛ p ⊕ own)
+    (cond (eqb more 2) (four-f ⊛ p ⊕ (own ⊖ p))
+    (cond (eqb more 3) (four-f ⊛ p ⊕ own)
+    (cond (eqb more 4) (withLoss (dbl 0x4018_0000_0000_0000 ⊛ p) (four-f ⊛ p) (dbl 0x4000_0000_0000_0000 ⊛ p) (own ⊖ p))
+    (cond (eqb more 5) (withLoss (dbl 0x401c_0000_0000_0000 ⊛ p) (dbl 0x4020_0000_0000_0000 ⊛ p) (neg p) (own ⊖ p))
+    (cond (eqb more 6) (dbl 0x4020_0000_0000_0000 ⊛ p ⊕ (own ⊖ p))
+    (cond (eqb more 7) (dbl 0x4020_0000_0000_0000 ⊛ p ⊕ own)
+    (cond (eqb more 8) (withLoss (dbl 0x4024_0000_0000_0000 ⊛ p) (dbl 0x4020_0000_0000_0000 ⊛ p) (dbl 0x4000_0000_0000_0000 ⊛ p) (own ⊖ p)) zero-f))))))))
 
 -- volume × temperature is finite in each of n layers
 abbrev pub HeatFinite : ℕ → List Float → List Float → Type 0

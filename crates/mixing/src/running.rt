@@ -15,7 +15,7 @@ ghost use Rattle.numeric.specs.Sum2.{nothing-added, accumulate, sumTurn, total}
 ghost use Rattle.mixing.specs.Limits.{maxLayers};
 ghost use Rattle.mixing.specs.Round.{oneRound};
 ghost use Rattle.mixing.specs.Rearrange.{isSorted};
-ghost use Rattle.mixing.specs.Running.{heatSum, SaysJoins, joinedGroup, Started, Ended, Follows};
+ghost use Rattle.mixing.specs.Running.{withLoss, guessedTotal, heatSum, SaysJoins, joinedGroup, Started, Ended, Follows};
 use crate::limits::MAX_LAYERS;
 use numeric::sum2::Accumulator;
 
@@ -239,9 +239,18 @@ fn join_even_plain(
     )
 }
 
-// The total of a layer's own heat and the heat p of each of more + 1 layers: one rounding gives what Sum2 gives, where a multiple of p and the rest are exact. It is a guess, and
-// 0 where there is none; it does not wait for a sum of the layers.
-fn guess_total(more: usize, p: f64, own: f64) -> f64 {
+// h and x, with what h, the sum of a and b, has lost.
+fn with_loss(h: f64, a: f64, b: f64, x: f64) -> f64
+    ensures { λ r. ⌜ r ≡ withLoss h a b x ⌝ }
+{
+    h + ((b - (h - a)) + x)
+}
+
+// The total of a layer's own heat and the heat p of each of more + 1 layers, in few roundings: what Sum2 gives, where a multiple of p and the rest are exact. It is a
+// guess, and 0 where there is none; it does not wait for a sum of the layers.
+fn guess_total(more: usize, p: f64, own: f64) -> f64
+    ensures { λ r. ⌜ r ≡ guessedTotal more p own ⌝ }
+{
     if more == 0 {
         return p + own;
     }
@@ -254,11 +263,20 @@ fn guess_total(more: usize, p: f64, own: f64) -> f64 {
     if more == 3 {
         return 4.0 * p + own;
     }
+    if more == 4 {
+        return with_loss(6.0 * p, 4.0 * p, 2.0 * p, own - p);
+    }
+    if more == 5 {
+        return with_loss(7.0 * p, 8.0 * p, -p, own - p);
+    }
     if more == 6 {
         return 8.0 * p + (own - p);
     }
     if more == 7 {
         return 8.0 * p + own;
+    }
+    if more == 8 {
+        return with_loss(10.0 * p, 8.0 * p, 2.0 * p, own - p);
     }
     0.0
 }
@@ -268,7 +286,7 @@ fn is_total(heat: Accumulator, guess: f64) -> bool
     ensures { λ q. ⌜ (q ≡ true → total heat ≡ guess) ⌝ }
 {
     if guess > 0.0 {
-        return numeric::sum2::total_of(heat) == guess;
+        return numeric::compare::is_same(numeric::sum2::total_of(heat), guess);
     }
     false
 }

@@ -8,11 +8,11 @@ use native.Mathlib.Nat.{lt-irrefl, zero-lt-suc, mul-pos}
 use borrow.Author.Tests.{eqb-true, eqb-false}
 use lib.Dec.{T, eqb}
 use lib.IntN.{ℤ}
-use lib.Ieee.{Float, nan, inf, fin, binary64, unlike, level, fits, eq, up, down}
+use lib.Ieee.{Float, nan, inf, fin, binary64, unlike, level, fits, eq, up, down, lt, ofBits}
 use lib.Ieee.Fits.{up-pos, down-pos}
 use lib.Ieee.Scale.{finite}
-use Rattle.numeric.specs.Double.{_⊛_}
-use Rattle.numeric.specs.Zeros.{IsZero, SameValue}
+use Rattle.numeric.specs.Double.{_⊛_, zero-f}
+use Rattle.numeric.specs.Zeros.{IsZero, SameValue, signed-zero}
 use Rattle.numeric.proofs.Rounding.{unique}
 use Rattle.numeric.proofs.Zeros.{zero-written, times-zero, zero-times}
 
@@ -123,3 +123,13 @@ same-left v w x y f g (inr z) h = inr (zero-product-left v x (z .0) f, zero-prod
 pub same-factor : (v w x : Float) → T (finite x) → SameValue v w → SameValue (v ⊛ x) (w ⊛ x)
 same-factor v w x f (inl e) = inl (ap (λ (z : Float). z ⊛ x) e)
 same-factor v w x f (inr z) = inr (zero-product-left v x (z .0) f, zero-product-left w x (z .1) f)
+
+zero-not-above : (s : Bool) → lt zero-f (signed-zero s) ≡ false
+unfolding lt ofBits
+zero-not-above true = refl
+zero-not-above false = refl
+
+-- two doubles that are equal, the second above zero, are the same
+pub same-above : (x y : Float) → SameValue x y → lt zero-f y ≡ true → x ≡ y
+same-above x y (inl e) l = e
+same-above x y (inr z) l = absurd (true≢false (sym (rw (z .1 .1) at l) ∙ zero-not-above (z .1 .0)))
