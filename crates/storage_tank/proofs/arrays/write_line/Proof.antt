@@ -38,7 +38,10 @@ element-write-rounds : tie.Need-element-write-rounds
 element-write-rounds c = search needs
 
 returns : tie.Need-returns
-returns c = (line-written _ _ _ _ _ (search needs) (c .pre .1), line-holds _ _ _ _ _ (search needs) (c .pre .1))
+returns c =
+    let a = c .args in
+    let l = c .pre .0 in
+    (line-written (a .figures .now) (a .flags .now) (a .rounds .now) (a .h) (a .x) l (c .pre .1), line-holds (a .figures .now) (a .flags .now) (a .rounds .now) (a .h) (a .x) l (c .pre .1))
 
 pub write-line-spec : {M : Type 1} → statement M
 write-line-spec =
