@@ -1,11 +1,11 @@
 // Makes and steps tanks, and prints each answer with all its numbers: the four totals, the layers, and each heater's line, as given.
 use crate::print;
-use storage_tank::HeaterLine;
+use tank_model::HeaterLine;
 use storage_tank::Report;
-use storage_tank::Step;
+use tank_model::Step;
 use storage_tank::Stepped;
 use storage_tank::StorageTank;
-use storage_tank::TankDesign;
+use tank_model::TankDesign;
 use working_order::MAX_HEATERS;
 
 // `make`, the refusal's number (0 where accepted), how many heaters, and the layers.

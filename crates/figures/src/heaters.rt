@@ -3,9 +3,9 @@ use crate::answers;
 use crate::print;
 use crate::tanks;
 use heating::SetPoints;
-use storage_tank::Heater;
-use storage_tank::Step;
-use storage_tank::TankDesign;
+use tank_model::Heater;
+use tank_model::Step;
+use tank_model::TankDesign;
 
 // Two layers at 40, and a heater of 160 kW at position 0.
 fn from_40() -> TankDesign {

@@ -1,12 +1,12 @@
 // What the figures are run on. Unless a figure says otherwise: density, specific heat and step length 1, standby loss 0, ambient 20, feed 12.
 use draw_off::event::MAX_EVENTS;
 use heating::SetPoints;
-use storage_tank::Heater;
-use storage_tank::HeaterLine;
+use tank_model::Heater;
+use tank_model::HeaterLine;
 use storage_tank::Report;
-use storage_tank::Setting;
-use storage_tank::Step;
-use storage_tank::TankDesign;
+use tank_model::Setting;
+use tank_model::Step;
+use tank_model::TankDesign;
 use working_order::MAX_HEATERS;
 
 // A heater with its thermostat in its own layer.

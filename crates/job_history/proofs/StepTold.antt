@@ -15,17 +15,18 @@ use Rattle.draw_off.specs.declared.event.EventAnswer.{EventAnswer}
 use Rattle.draw_off.specs.Lent.{drawingOf}
 use Rattle.draw_off.specs.Event.{Event, Drawing, drawAll}
 use Rattle.heating.specs.Turn.{turnNumber}
-use Rattle.storage_tank.specs.declared.Heater.{Heater}
+use Rattle.tank_model.specs.declared.Heater.{Heater}
 use Rattle.storage_tank.specs.declared.StorageTank.{StorageTank}
-use Rattle.storage_tank.specs.declared.Step.{Step}
-use Rattle.storage_tank.specs.Fixed.{Fixed, placedHeaters, fixedIn, stateIn}
-use Rattle.storage_tank.specs.Order.{workingOrder}
-use Rattle.storage_tank.specs.Checks.{stepRefusal}
-use Rattle.storage_tank.specs.Members.{All}
-use Rattle.storage_tank.specs.Work.{Progress, Turn, End, refused, done, resume, andThen, endBy, withDraw, event, events, wantedVolumes, withAverage, turnOf, afterTurn, heaterTurn, turns, allTurns, opening, begin, work}
-use Rattle.storage_tank.specs.Lent.{noTotals}
-use Rattle.storage_tank.proofs.Order.{many-placed, placed-at, order-below}
-use Rattle.storage_tank.proofs.StepWorked.{events-end}
+use Rattle.tank_model.specs.declared.Step.{Step}
+use Rattle.tank_model.specs.Fixed.{Fixed, placedHeaters}
+use Rattle.storage_tank.specs.Tank.{fixedIn, stateIn}
+use Rattle.tank_model.specs.Order.{workingOrder}
+use Rattle.tank_model.specs.Checks.{stepRefusal}
+use Rattle.tank_model.specs.Members.{All}
+use Rattle.tank_model.specs.Work.{Progress, Turn, End, refused, done, resume, andThen, endBy, withDraw, event, events, wantedVolumes, withAverage, turnOf, afterTurn, heaterTurn, turns, allTurns, opening, begin, work}
+use Rattle.step_work.specs.Lent.{noTotals}
+use Rattle.tank_model.proofs.Order.{many-placed, placed-at, order-below}
+use Rattle.step_work.proofs.StepWorked.{events-end}
 use Rattle.job_history.specs.declared.TurnFact.{TurnFact}
 use Rattle.job_history.specs.Facts.{factOf, factsOf, stepTurns}
 use Rattle.job_history.specs.Lent.{turnFacts}

@@ -14,9 +14,9 @@ use Rattle.numeric.specs.Copy.{copied, copied-turn}
 use Rattle.cylinder.specs.declared.Cylinder.{Cylinder}
 use Rattle.heating.specs.Turn.{turnNumber}
 use Rattle.working_order.specs.Order.{maxHeaters}
-use Rattle.storage_tank.specs.declared.Heater.{Heater}
-use Rattle.storage_tank.specs.declared.Setting.{Setting}
-use Rattle.storage_tank.proofs.TurnLoop.{slice-past}
+use Rattle.tank_model.specs.declared.Heater.{Heater}
+use Rattle.tank_model.specs.declared.Setting.{Setting}
+use Rattle.step_work.proofs.TurnLoop.{slice-past}
 use Rattle.job_history.specs.declared.TurnFact.{TurnFact}
 use Rattle.job_history.specs.declared.Turns.{Turns}
 use Rattle.job_history.specs.declared.facts.ToldTurn.{ToldTurn}

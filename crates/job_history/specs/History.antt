@@ -4,7 +4,7 @@ use mathlib.Core.List.{List}
 use lib.ListN.{length}
 use Rattle.storage_tank.specs.declared.StorageTank.{StorageTank}
 use Rattle.storage_tank.specs.declared.Report.{Report}
-use Rattle.storage_tank.specs.declared.Step.{Step}
+use Rattle.tank_model.specs.declared.Step.{Step}
 use Rattle.storage_tank.specs.Calls.{stepped}
 use Rattle.job_reader.specs.declared.Record.{Record}
 use Rattle.job_reader.specs.declared.Record.the-variants.{Tank, Heater as HeaterCase, Step as StepCase, Refused}

@@ -10,11 +10,11 @@ use Rattle.cylinder.specs.declared.Cylinder.{Cylinder}
 use Rattle.cylinder.specs.Layers.{layerVolumes}
 use Rattle.heating.specs.declared.SetPoints.{SetPoints}
 use Rattle.heating.specs.Turn.{Turned, turn, turnNumber}
-use Rattle.storage_tank.specs.declared.Heater.{Heater}
-use Rattle.storage_tank.specs.declared.Setting.{Setting}
-use Rattle.storage_tank.specs.Fixed.{noHeater}
-use Rattle.storage_tank.specs.Checks.{noSetting}
-use Rattle.storage_tank.specs.Lent.{immersion}
+use Rattle.tank_model.specs.declared.Heater.{Heater}
+use Rattle.tank_model.specs.declared.Setting.{Setting}
+use Rattle.tank_model.specs.Fixed.{noHeater}
+use Rattle.tank_model.specs.Checks.{noSetting}
+use Rattle.step_work.specs.Lent.{immersion}
 use Rattle.job_history.specs.declared.TurnFact.{TurnFact}
 use Rattle.job_history.specs.declared.facts.ToldTurn.{ToldTurn}
 

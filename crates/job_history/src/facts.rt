@@ -7,9 +7,9 @@ ghost use Rattle.mixing.specs.Limits.{maxLayers};
 ghost use Rattle.cylinder.specs.Layers.{layerVolumes};
 ghost use Rattle.heating.specs.Turn.{turn};
 ghost use Rattle.working_order.specs.Order.{maxHeaters};
-ghost use Rattle.storage_tank.specs.Fixed.{placedHeaters};
-ghost use Rattle.storage_tank.specs.Order.{workingOrder};
-ghost use Rattle.storage_tank.specs.Lent.{immersion};
+ghost use Rattle.tank_model.specs.Fixed.{placedHeaters};
+ghost use Rattle.tank_model.specs.Order.{workingOrder};
+ghost use Rattle.step_work.specs.Lent.{immersion};
 ghost use Rattle.job_history.specs.Facts.{stepTurns, noFact, turnsOf};
 ghost use Rattle.job_history.specs.Lent.{Told, turnFacts};
 use crate::TurnFact;
@@ -17,9 +17,9 @@ use crate::Turns;
 use cylinder::Cylinder;
 use heating::SetPoints;
 use mixing::limits::MAX_LAYERS;
-use storage_tank::Heater;
-use storage_tank::Setting;
-use storage_tank::Step;
+use tank_model::Heater;
+use tank_model::Setting;
+use tank_model::Step;
 use storage_tank::StorageTank;
 use working_order::MAX_HEATERS;
 
@@ -67,7 +67,7 @@ fn tell_turn(
     requires { ⌜ (1 ≤ c .layers) × (c .layers ≤ maxLayers) ⌝ }
     ensures { λ r. ⌜ Told c h p (immersion (c .layers) x .thermostat) (now (temps .entry)) (turn c (now (vol .entry)) (immersion (c .layers) x) p (now (temps .entry)) (now (charged .entry)) flag) r (now (temps .exit)) (now (charged .exit)) ⌝ }
 {
-    let i = storage_tank::turns::immersion_of(c.layers, x);
+    let i = step_work::turns::immersion_of(c.layers, x);
     let thermostat = i.thermostat;
     let start = temps[thermostat];
     let u = heating::turn::turn(c, vol, i, p, flag, temps, charged);
@@ -137,7 +137,7 @@ fn tell_turns(
     requires { ⌜ (1 ≤ c .layers) × (c .layers ≤ maxLayers) × (n ≤ maxHeaters) × (now vol ≡ layerVolumes c) ⌝ }
     ensures { λ r. ⌜ (r ≡ turnsOf (turnFacts c fitted settings (workingOrder (record { cylinder = c; heaters = placedHeaters n fitted })) (now (temps .entry)) (now (charged .entry)) flags)) × (r .count ≤ maxHeaters) ⌝ }
 {
-    let positions = storage_tank::turns::positions_of(fitted);
+    let positions = step_work::turns::positions_of(fitted);
     let order = working_order::working_order(n, &positions);
     tell_in_order(c, vol, n, fitted, settings, &order, flags, temps, charged)
 }
@@ -146,13 +146,13 @@ fn tell_turns(
 pub fn step_turns(t: StorageTank, a: Step) -> Turns
     ensures { λ r. ⌜ (r ≡ turnsOf (stepTurns t a)) × (r .count ≤ maxHeaters) ⌝ }
 {
-    if storage_tank::refusals::step_refusal(t, a) != 0 {
+    if step_work::refusals::step_refusal(t, a) != 0 {
         return no_turns();
     }
-    let c = storage_tank::refusals::cylinder_in(t);
+    let c = step_work::refusals::cylinder_in(t);
     let vol = cylinder::layer_volumes(c);
     let mut temps = t.temps;
-    let none = storage_tank::hot_water::no_totals();
+    let none = step_work::work::no_totals();
     let d = draw_off::event::draw_events(c, &vol, a.feed, a.events, &a.volumes, &mut temps, none);
     if d.number != 0 {
         return no_turns();

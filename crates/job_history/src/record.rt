@@ -5,7 +5,7 @@ ghost use Rattle.job_history.specs.History.{historyStep, historyTurn};
 use job_reader::Record;
 use job_run::Job;
 use job_run::Printed;
-use storage_tank::Step;
+use tank_model::Step;
 
 // A step's turns; the job goes on as it does when it prints its figures.
 fn tell_step(buf: &mut [u8], j: Job, next: usize, a: Step) -> Printed

@@ -6,7 +6,7 @@ use mathlib.Core.List.{List}
 use lib.ListN.{getD, take}
 use lib.Seq.{getD-take}
 use lib.Ieee.{Float}
-use Rattle.storage_tank.specs.declared.HeaterLine.{HeaterLine}
+use Rattle.tank_model.specs.declared.HeaterLine.{HeaterLine}
 use Rattle.storage_tank.specs.declared.Report.{Report}
 use Rattle.job_lines.specs.Lines.{joined, noLine, heaterLine, orderedLine, heaterLines, acceptedLines}
 

@@ -11,7 +11,7 @@ use crate::text::put_byte;
 use crate::text::put_double;
 use crate::text::put_number;
 use mixing::limits::MAX_LAYERS;
-use storage_tank::HeaterLine;
+use tank_model::HeaterLine;
 use storage_tank::Report;
 use storage_tank::Stepped;
 use working_order::MAX_HEATERS;
@@ -167,7 +167,7 @@ pub fn step_lines(buf: &mut [u8], index: usize, s: Stepped) -> usize
     let report = s.report;
     let fitted = t.fitted;
     let n = at_most(t.heaters, MAX_HEATERS);
-    let positions = storage_tank::turns::positions_of(fitted);
+    let positions = step_work::turns::positions_of(fitted);
     let order = working_order::working_order(n, &positions);
     accepted_lines(buf, index, report, t.layers, &temps, n, order)
 }

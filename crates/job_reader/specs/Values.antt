@@ -3,8 +3,8 @@ use Prim.Native.Nat.{ℕ}
 use mathlib.Core.List.{List}
 use lib.Ieee.{Float}
 use Rattle.numeric.specs.Double.{zero-f}
-use Rattle.storage_tank.specs.declared.Heater.{Heater}
-use Rattle.storage_tank.specs.declared.Setting.{Setting}
+use Rattle.tank_model.specs.declared.Heater.{Heater}
+use Rattle.tank_model.specs.declared.Setting.{Setting}
 use Rattle.storage_tank.specs.Calls.{zeroHeater}
 use Rattle.job_reader.specs.declared.TankRecord.{TankRecord}
 use Rattle.job_reader.specs.declared.StepRecord.{StepRecord}

@@ -9,7 +9,7 @@ ghost use Rattle.job_reader.specs.Fields.{volumesAt, isPresenceAt, point
 use crate::bytes::f64_at;
 use draw_off::event::MAX_EVENTS;
 use heating::SetPoints;
-use storage_tank::Setting;
+use tank_model::Setting;
 use working_order::MAX_HEATERS;
 
 // The first n volumes, and zeros after them.

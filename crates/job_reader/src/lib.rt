@@ -5,8 +5,8 @@ pub mod read;
 pub mod reader;
 
 use draw_off::event::MAX_EVENTS;
-use storage_tank::Heater;
-use storage_tank::Setting;
+use tank_model::Heater;
+use tank_model::Setting;
 use working_order::MAX_HEATERS;
 
 // A tank's record: the numbers of its design, heaters apart.

@@ -15,8 +15,8 @@ use crate::bytes::u16_at;
 use crate::bytes::u32_at;
 use draw_off::event::MAX_EVENTS;
 use heating::SetPoints;
-use storage_tank::Heater;
-use storage_tank::Setting;
+use tank_model::Heater;
+use tank_model::Setting;
 use working_order::MAX_HEATERS;
 
 // A record with no volumes and no settings.

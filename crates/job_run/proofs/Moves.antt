@@ -8,9 +8,9 @@ use mathlib.Core.Path.{_≡_, refl}
 use lib.ListN.{length}
 use lib.Dec.{ltb, eqb}
 use Rattle.working_order.specs.Order.{maxHeaters}
-use Rattle.storage_tank.specs.declared.Heater.{Heater}
-use Rattle.storage_tank.specs.declared.TankDesign.{TankDesign}
-use Rattle.storage_tank.specs.declared.Step.{Step}
+use Rattle.tank_model.specs.declared.Heater.{Heater}
+use Rattle.tank_model.specs.declared.TankDesign.{TankDesign}
+use Rattle.tank_model.specs.declared.Step.{Step}
 use Rattle.storage_tank.specs.Calls.{made}
 use Rattle.job_reader.specs.declared.Record.{Record}
 use Rattle.job_reader.specs.declared.Record.the-variants.{Tank, Heater as HeaterCase, Step as StepCase, Refused}

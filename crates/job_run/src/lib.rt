@@ -4,7 +4,7 @@ pub mod start;
 
 use storage_tank::Report;
 use storage_tank::StorageTank;
-use storage_tank::TankDesign;
+use tank_model::TankDesign;
 
 // Where a job stands: the next record's start, whether the job has ended, whether a tank came, how many steps came, the tank's record and heaters as given,
 // the tank, and the report of its last accepted step.

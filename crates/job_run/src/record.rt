@@ -5,10 +5,10 @@ ghost use Rattle.job_run.specs.Job.{Turned, refusedTurn, madeTurn, heate
 use crate::Job;
 use crate::Printed;
 use job_reader::Record;
-use storage_tank::Heater;
-use storage_tank::Step;
+use tank_model::Heater;
+use tank_model::Step;
 use storage_tank::StorageTank;
-use storage_tank::TankDesign;
+use tank_model::TankDesign;
 use working_order::MAX_HEATERS;
 
 // The job ends, and nothing is printed.

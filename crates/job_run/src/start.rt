@@ -7,11 +7,11 @@ use crate::Job;
 use draw_off::event::MAX_EVENTS;
 use job_reader::StepRecord;
 use job_reader::TankRecord;
-use storage_tank::Heater;
+use tank_model::Heater;
 use storage_tank::Report;
-use storage_tank::Setting;
-use storage_tank::Step;
-use storage_tank::TankDesign;
+use tank_model::Setting;
+use tank_model::Step;
+use tank_model::TankDesign;
 use working_order::MAX_HEATERS;
 
 // A step's report before any: zeros.
@@ -23,7 +23,7 @@ fn no_report() -> Report
         used: 0.0,
         average: 0.0,
         recoverable: 0.0,
-        lines: [storage_tank::turns::zero_line(); MAX_HEATERS],
+        lines: [step_work::turns::zero_line(); MAX_HEATERS],
     }
 }
 

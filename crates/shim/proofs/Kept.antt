@@ -9,18 +9,18 @@ use lib.Arith.{lt-of-le-ne}
 use lib.ListN.{length, getD}
 use lib.Ieee.{Float, nan}
 use Rattle.numeric.specs.Tabulate.{tabulate}
-use Rattle.storage_tank.specs.declared.Step.{Step}
+use Rattle.tank_model.specs.declared.Step.{Step}
 use Rattle.storage_tank.specs.declared.StorageTank.{StorageTank}
 use Rattle.storage_tank.specs.declared.Report.{Report}
 use Rattle.storage_tank.specs.declared.Stepped.{Stepped}
-use Rattle.storage_tank.specs.declared.hot_water.WorkAnswer.{WorkAnswer}
-use Rattle.storage_tank.specs.Fixed.{fixedIn, stateIn}
-use Rattle.storage_tank.specs.Work.{End, refused, done, work}
-use Rattle.storage_tank.specs.Arrays.{fittedIn, heatersOf, thermostatsOf, linesIn, HoldsLines}
+use Rattle.step_work.specs.declared.work.WorkAnswer.{WorkAnswer}
+use Rattle.storage_tank.specs.Tank.{fixedIn, stateIn}
+use Rattle.tank_model.specs.Work.{End, refused, done, work}
+use Rattle.step_work.specs.Arrays.{fittedIn, heatersOf, thermostatsOf, linesIn, HoldsLines}
 use Rattle.storage_tank.specs.Calls.{answer, stepped}
-use Rattle.storage_tank.specs.Lent.{acceptedStep}
+use Rattle.storage_tank.specs.Answers.{acceptedStep}
 use Rattle.storage_tank.proofs.Calls.{refused-step}
-use Rattle.storage_tank.proofs.LentArrays.{places}
+use Rattle.step_work.proofs.LentArrays.{places}
 use Rattle.shim.specs.Tanks.{tankIn, TankWritten}
 use Rattle.shim.specs.Reports.{reportIn, totalsOf, figuresOf, lineFlagsOf, roundsOf, ReportWritten}
 use Rattle.shim.specs.Answers.{StepAnswered}

@@ -7,9 +7,9 @@ use lib.ListN.{getD}
 use lib.Ieee.{Float, nan}
 use Rattle.numeric.specs.Tabulate.{tabulate}
 use Rattle.working_order.specs.Order.{maxHeaters}
-use Rattle.storage_tank.specs.declared.HeaterLine.{HeaterLine}
+use Rattle.tank_model.specs.declared.HeaterLine.{HeaterLine}
 use Rattle.storage_tank.specs.declared.Report.{Report}
-use Rattle.storage_tank.specs.Arrays.{linesIn}
+use Rattle.step_work.specs.Arrays.{linesIn}
 
 -- what stands past the end of a list of lines
 abbrev noLine : HeaterLine

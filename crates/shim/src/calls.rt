@@ -12,8 +12,8 @@ use draw_off::event::MAX_EVENTS;
 use mixing::MixAnswer;
 use mixing::limits::MAX_LAYERS;
 use storage_tank::StorageTank;
-use storage_tank::arrays::THREE_EACH;
-use storage_tank::hot_water::WorkAnswer;
+use step_work::arrays::THREE_EACH;
+use step_work::work::WorkAnswer;
 use working_order::MAX_HEATERS;
 
 fn number_of(a: MixAnswer) -> u8
@@ -71,9 +71,9 @@ fn put_tank(
     let layers = t.temps;
     *temps = layers;
     let fitted = t.fitted;
-    let h = storage_tank::arrays::heaters_of(fitted);
+    let h = step_work::arrays::heaters_of(fitted);
     *heaters = h;
-    let b = storage_tank::arrays::thermostats_of(fitted);
+    let b = step_work::arrays::thermostats_of(fitted);
     *thermostats = b;
     let f = t.flags;
     *flags = f;
@@ -155,7 +155,7 @@ pub extern "C" fn huszmago_step(
     let mut x = [0.0; THREE_EACH];
     let mut g = [false; MAX_HEATERS];
     let mut k = [0; MAX_HEATERS];
-    let w = storage_tank::hot_water::work_step(
+    let w = step_work::work::work_step(
         c,
         counts[1],
         heaters,

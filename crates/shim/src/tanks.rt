@@ -2,11 +2,11 @@
 ghost use mathlib.Core.Path.{_≡_};
 ghost use Prim.Native.Nat.{_<_};
 ghost use Rattle.working_order.specs.Order.{maxHeaters};
-ghost use Rattle.storage_tank.specs.Arrays.{heaterIn, fittedIn};
+ghost use Rattle.step_work.specs.Arrays.{heaterIn, fittedIn};
 ghost use Rattle.shim.specs.Tanks.{designIn, countsOf, numbersOf};
-use storage_tank::Heater;
+use tank_model::Heater;
 use storage_tank::StorageTank;
-use storage_tank::TankDesign;
+use tank_model::TankDesign;
 use working_order::MAX_HEATERS;
 
 // The heater h: rated powers stand first, then positions, then thermostat positions.

@@ -1,75 +1,37 @@
 -- Proves demand 3: of what make and every list of calls answer, and of whatever was answered where each answer meets its call's promise (00, demand 3; 01, Turn).
-use mathlib.Core.Path.{_≡_, refl, sym, ap, ap₂, _∙_}
+use mathlib.Core.Path.{_≡_, refl, sym, ap, ap₂, _∙_, subst}
 use mathlib.Core.Logic.{_↔_}
 use mathlib.Core.List.{List, [], _∷_}
-use mathlib.Core.Bool.{Bool, true, false, not, _&&_, cond}
+use mathlib.Core.Bool.{Bool, true, false, not, cond}
 use Prim.Native.Nat.{ℕ, zero, suc, _<_, _≤_}
 use native.Mathlib.Nat.{le-of-suc-le-suc, not-suc-le-zero}
 use native.Mathlib.Omega.{arith}
-use lib.Dec.{T, eqb, eqb→eq, ltb, lt→ltb, ltb→lt, nltb→le, lit<}
-use lib.ListN.{length, getD, take, replicate}
-use lib.Ieee.Fits.{and-l, and-r, and-i, eq→eqb}
+use lib.Dec.{T, ltb, lt→ltb, ltb→lt, nltb→le}
+use lib.ListN.{length, getD, take}
 use lib.Ieee.Bits.{is-true}
 use Rattle.numeric.specs.Double.{zero-f}
 use Rattle.numeric.specs.Tabulate.{tabulate, at-tabulate, past-tabulate, tabulate-same}
-use Rattle.draw_off.specs.Event.{Event}
-use Rattle.heating.specs.SwitchLaws.{latched}
-use Rattle.storage_tank.specs.declared.Heater.{Heater}
-use Rattle.storage_tank.specs.declared.TankDesign.{TankDesign}
+use Rattle.working_order.specs.Order.{maxHeaters}
+use Rattle.tank_model.specs.declared.Heater.{Heater}
+use Rattle.tank_model.specs.declared.HeaterLine.{HeaterLine}
+use Rattle.tank_model.specs.declared.TankDesign.{TankDesign}
+use Rattle.tank_model.specs.Fixed.{Placed, Fixed, State, placed, noHeater, placedHeaters, fixedOf}
+use Rattle.tank_model.specs.Checks.{firstRefusal, stepRefusal}
+use Rattle.tank_model.specs.Work.{Progress, Turn, End, refused, done, Work, lineOf, zeroLine, begin, work}
+use Rattle.tank_model.specs.History.{Call, step, designRefusal, start, carry, carried, workOf, run, history}
+use Rattle.tank_model.specs.Members.{All}
+use Rattle.tank_model.specs.Course.{accepted, numberOf}
+use Rattle.tank_model.specs.HistoryDemand.{passed, RightlySupplied, noWork, HistoryDemand}
+use Rattle.tank_model.proofs.Members.{all-map, all-both}
+use Rattle.tank_model.proofs.Works.{made-heaters}
+use Rattle.tank_model.proofs.HistoryDemand.{history-demand}
 use Rattle.storage_tank.specs.declared.StorageTank.{StorageTank}
 use Rattle.storage_tank.specs.declared.Report.{Report}
 use Rattle.storage_tank.specs.declared.Made.{Made}
 use Rattle.storage_tank.specs.declared.Stepped.{Stepped}
-use Rattle.working_order.specs.Order.{maxHeaters}
-use Rattle.storage_tank.specs.Fixed.{Placed, Fixed, State, placed, noHeater, placedHeaters, fixedOf, fixedIn}
-use Rattle.storage_tank.specs.Order.{workingOrder}
-use Rattle.storage_tank.specs.Checks.{firstRefusal, stepRefusal}
-use Rattle.storage_tank.specs.declared.Step.{Step}
-use Rattle.storage_tank.specs.Work.{Progress, Turn, End, refused, done, Work, stop, lineOf, zeroLine, opening, begin, work}
-use Rattle.storage_tank.specs.History.{Call, step, designRefusal, start, carry, carried, workOf, run, history}
+use Rattle.storage_tank.specs.Tank.{fixedIn}
 use Rattle.storage_tank.specs.Calls.{zeroHeater, cleanHeater, fittedHeaters, madeOf, made, answer, stepped, answered, answers}
-use Rattle.storage_tank.specs.Members.{All}
-use Rattle.storage_tank.specs.Course.{accepted, numberOf}
-use Rattle.storage_tank.specs.Demand.{InTurn, OrderedOrNine, EventOrderedOrNine, passed, suppliedIn, RightlySupplied, noWork, noAnswer, noCall, OnSince, lastTank, tankOf, holding, CourseOf, AsGiven, FittedAsGiven, Demand3, Promises}
-use Rattle.storage_tank.proofs.Latch.{latchedBy, latched-since}
-use Rattle.storage_tank.proofs.Members.{any, any→Some, Some→any, all-map, all-both}
-use Rattle.storage_tank.proofs.Order.{in-working-order}
-use Rattle.storage_tank.proofs.Steps.{Reach, Meets, Law, ofHeater, began, ended, nothing-latched}
-use Rattle.storage_tank.proofs.TurnFacts.{Right}
-use Rattle.storage_tank.proofs.Works.{made-heaters, work-meets}
-use Rattle.storage_tank.proofs.Course.{work-course}
-
--- ---- 'in an accepted step the heater's turn ..', as a test
-
-abbrev inTurn : (Turn → Bool) → ℕ → Work → Bool
-inTurn q h w = accepted (w .end) && any (ofHeater h q) (w .turns)
-
-to-turn : (q : Turn → Bool) (h : ℕ) (w : Work) → T (inTurn q h w) → InTurn (λ (u : Turn). T (q u)) h w
-to-turn q h w t = (
-  and-l (accepted (w .end)) (any (ofHeater h q) (w .turns)) t,
-  any→Some (ofHeater h q) (λ (u : Turn). (u .heater ≡ h) × T (q u)) (λ u k. (eqb→eq (u .heater) h (and-l (eqb (u .heater) h) (q u) k), and-r (eqb (u .heater) h) (q u) k)) (w .turns)
-      (and-r (accepted (w .end)) (any (ofHeater h q) (w .turns)) t),
-)
-
-of-turn : (q : Turn → Bool) (h : ℕ) (w : Work) → InTurn (λ (u : Turn). T (q u)) h w → T (inTurn q h w)
-of-turn q h w t =
-    and-i (accepted (w .end)) (any (ofHeater h q) (w .turns)) (t .0)
-    (Some→any (ofHeater h q) (λ (u : Turn). (u .heater ≡ h) × T (q u)) (λ u k. and-i (eqb (u .heater) h) (q u) (eq→eqb (k .0)) (k .1)) (w .turns) (t .1))
-
-not-T : (b : Bool) → T (not b) → ¬ (T b)
-not-T true n t = n
-not-T false n t = t
-
-T-not : (b : Bool) → ¬ (T b) → T (not b)
-T-not true n = n tt
-T-not false n = tt
-
-flags-on : (h : ℕ) (ws : List Work) → T (latchedBy (inTurn began h) (inTurn ended h) noWork false ws) ↔ OnSince h ws
-flags-on h ws =
-    let since = latched-since (inTurn began h) (inTurn ended h) noWork refl refl ws in (
-      λ t. let o = since .0 t in (o .0, to-turn began h (getD ws (o .0) noWork) (o .1), λ j l k. not-T (inTurn ended h (getD ws j noWork)) (o .2 j l) (of-turn ended h (getD ws j noWork) k)),
-      λ o. since .1 (o .0, of-turn began h (getD ws (o .0) noWork) (o .1), λ j l. T-not (inTurn ended h (getD ws j noWork)) (λ k. o .2 j l (to-turn ended h (getD ws j noWork) k))),
-    )
+use Rattle.storage_tank.specs.Demand.{suppliedIn, noAnswer, lastTank, tankOf, holding, AsGiven, FittedAsGiven, Demand3, Promises}
 
 -- ---- a tank that holds make's numbers is read as make's arguments
 
@@ -152,67 +114,7 @@ module _ (m : TankDesign) (n : ℕ) (fits : n ≡ 0 → m .heaters ≤ maxHeater
   answered-tank : (st : State) (r : Report) (x : Call) → answered (holding m n st) r x .tank ≡ holding m n (carry st (workOf m n st x .end))
   answered-tank st r x = ap (λ (y : Stepped). y .tank) (call-is st r x) ∙ tank-is st r x
 
-  pub record Sound (st : State) : Type 0 where
-    pub long : length (st .flags) ≡ maxHeaters
-    pub held : holding m n st .flags ≡ st .flags
-
-  abbrev stepArguments : Call → Step
-  stepArguments (step a) = a
-
-  abbrev LawOf : State → List Turn → Progress → Type 0
-  LawOf st = Law (workingOrder (fixedOf m)) (opening st)
-
-  meets : (st : State) (x : Call) → Sound st → Meets (m .layers) (Right m (stepArguments x)) (LawOf st) (workOf m n st x)
-  meets st (step a) l = go n
-    where
-      go : (k : ℕ) → Meets (m .layers) (Right m a) (LawOf st) (workOf m k st (step a))
-      go zero = unfold workOf in (work-meets m a st (l .long))
-      go (suc k) = unfold workOf in (tt, tt, tt, lit< tt)
-
-  course-one : (st : State) (x : Call) → n ≡ 0 → CourseOf m st x (workOf m n st x)
-  course-one st (step a) e = go n e
-    where
-      go : (k : ℕ) → k ≡ 0 → CourseOf m st (step a) (workOf m k st (step a))
-      go zero z = unfold workOf in (work-course m a st)
-      go (suc k) z = absurd (omega arith)
-
-  refused-one : (st : State) (x : Call) → 0 < n → workOf m n st x ≡ stop 1
-  refused-one st (step a) l = go n l
-    where
-      go : (k : ℕ) → 0 < k → workOf m k st (step a) ≡ stop 1
-      go zero z = absurd (not-suc-le-zero z)
-      go (suc k) z = unfold workOf in refl
-
-  flag-after : (st : State) (x : Call) (h : ℕ) → Sound st
-      → getD (carry st (workOf m n st x .end) .flags) h false ≡ latched (inTurn began h (workOf m n st x)) (inTurn ended h (workOf m n st x)) (getD (st .flags) h false)
-  flag-after st x h l = go (workOf m n st x .end) (meets st x l .3)
-    where
-      us : List Turn
-      us = workOf m n st x .turns
-
-      go : (e : End) → Reach (LawOf st us) e → getD (carry st e .flags) h false ≡ latched (accepted e && any (ofHeater h began) us) (accepted e && any (ofHeater h ended) us) (getD (st .flags) h false)
-      go (refused k) r = sym (nothing-latched (getD (st .flags) h false))
-      go (done s) r = unfold opening in (r .flag h)
-
-  sound-next : (st : State) (x : Call) → Sound st → Sound (carry st (workOf m n st x .end))
-  sound-next st x l = record { long = long (workOf m n st x .end) (meets st x l .3); held = held x n (l .held) }
-    where
-      long : (e : End) → Reach (LawOf st (workOf m n st x .turns)) e → length (carry st e .flags) ≡ maxHeaters
-      long (refused k) r = l .long
-      long (done s) r = unfold opening in (r .flags-length ∙ l .long)
-
-      held : (y : Call) (k : ℕ) → holding m k st .flags ≡ st .flags → holding m k (carry st (workOf m k st y .end)) .flags ≡ carry st (workOf m k st y .end) .flags
-      held (step a) zero h = refl
-      held (step a) (suc k) h = unfold workOf in h
-
   -- ---- a list of calls
-
-  flags-latched : (h : ℕ) (calls : List Call) (st : State) (r : Report) → Sound st
-      → getD (lastTank (holding m n st) (answers (holding m n st) r calls) .flags) h false ≡ latchedBy (inTurn began h) (inTurn ended h) noWork (getD (st .flags) h false) (run (workOf m n) st calls)
-  unfolding answers latchedBy run
-  flags-latched h [] st r l = rw (l .held)
-  flags-latched h (x ∷ calls) st r l =
-      rw (answered-tank st r x, flags-latched h calls (carry st (workOf m n st x .end)) (answered (holding m n st) r x .report) (sound-next st x l), flag-after st x h l)
 
   carries-on : (calls : List Call) (st : State) (r : Report) (i : ℕ) → i < length calls → getD (answers (holding m n st) r calls) i noAnswer .tank ≡ holding m n (carried st (take (suc i) (run (workOf m n) st calls)))
   unfolding answers run carried
@@ -220,47 +122,75 @@ module _ (m : TankDesign) (n : ℕ) (fits : n ≡ 0 → m .heaters ≤ maxHeater
   carries-on (x ∷ calls) st r zero k = answered-tank st r x
   carries-on (x ∷ calls) st r (suc i) k = rw (answered-tank st r x) (carries-on calls (carry st (workOf m n st x .end)) (answered (holding m n st) r x .report) i (le-of-suc-le-suc k))
 
-  -- what holds of each call from a sound state holds of each of a list's
-  module _ (Q : State → Call → Work → Stepped → Type 0) (one : (st : State) (r : Report) (x : Call) → Sound st → Q st x (workOf m n st x) (answer (holding m n st) r (workOf m n st x .end))) where
-    each : (calls : List Call) (st : State) (r : Report) → Sound st → (i : ℕ) → i < length calls
-        → Q (carried st (take i (run (workOf m n) st calls))) (getD calls i noCall) (getD (run (workOf m n) st calls) i noWork) (getD (answers (holding m n st) r calls) i noAnswer)
-    unfolding answers run carried
-    each [] st r l i k = absurd (not-suc-le-zero k)
-    each (x ∷ calls) st r l zero k = rw (call-is st r x) (one st r x l)
-    each (x ∷ calls) st r l (suc i) k = rw (answered-tank st r x) (each calls (carry st (workOf m n st x .end)) (answered (holding m n st) r x .report) (sound-next st x l) i (le-of-suc-le-suc k))
+  last-is : (calls : List Call) (st : State) (r : Report) → lastTank (holding m n st) (answers (holding m n st) r calls) ≡ holding m n (carried st (run (workOf m n) st calls))
+  unfolding answers run carried
+  last-is [] st r = refl
+  last-is (x ∷ calls) st r = rw (answered-tank st r x) (last-is calls (carry st (workOf m n st x .end)) (answered (holding m n st) r x .report))
 
-  -- ---- what each call meets
+  -- what holds of a work and of the answer made from its end holds of each of a list's
+  module _ (Q : Work → Stepped → Type 0) (one : (t : StorageTank) (r : Report) (w : Work) → Q w (answer t r (w .end))) where
+    each : (calls : List Call) (st : State) (r : Report) (i : ℕ) → i < length calls → Q (getD (run (workOf m n) st calls) i noWork) (getD (answers (holding m n st) r calls) i noAnswer)
+    unfolding answers run
+    each [] st r i k = absurd (not-suc-le-zero k)
+    each (x ∷ calls) st r zero k = rw (call-is st r x) (one (holding m n st) r (workOf m n st x))
+    each (x ∷ calls) st r (suc i) k = rw (answered-tank st r x) (each calls (carry st (workOf m n st x .end)) (answered (holding m n st) r x .report) i (le-of-suc-le-suc k))
 
-  supplies-one : (st : State) (r : Report) (x : Call) → Sound st
-      → All (λ (u : Turn). T (passed (u .turned .mixing)) → RightlySupplied m u (suppliedIn (workOf m n st x) (answer (holding m n st) r (workOf m n st x .end)) u)) (workOf m n st x .turns)
-  supplies-one st r x l = go (workOf m n st x .end) (meets st x l .3)
-    where
-      us : List Turn
-      us = workOf m n st x .turns
+-- where make is refused nothing is worked, and no flag goes on
+stays : (m : TankDesign) (k : ℕ) (calls : List Call) (st : State) → carried st (run (workOf m (suc k)) st calls) ≡ st
+unfolding run carried workOf
+stays m k [] st = refl
+stays m k (step a ∷ calls) st = stays m k calls st
 
-      R : Turn → Type 0
-      R = Right m (stepArguments x)
+held-flags : (m : TankDesign) (n : ℕ) (calls : List Call) → holding m n (carried (start m) (run (workOf m n) (start m) calls)) .flags ≡ carried (start m) (run (workOf m n) (start m) calls) .flags
+held-flags m zero calls = refl
+held-flags m (suc k) calls = sym (ap (λ (st : State). st .flags) (stays m k calls (start m)))
 
-      go : (e : End) → Reach (LawOf st us) e → All (λ (u : Turn). T (passed (u .turned .mixing)) → RightlySupplied m u (cond (accepted e) (getD (answer (holding m n st) r e .report .lines) (u .heater) zeroLine .supplied) (u .turned .supplied))) us
-      go (refused k) q = meets st x l .2
-      go (done s) q = unfold answer in (all-map (λ (u : Turn). R u × (getD (s .lines) (u .heater) zeroLine ≡ lineOf (u .turned))) (λ (u : Turn). T (passed (u .turned .mixing)) → RightlySupplied m u (getD (s .lines) (u .heater) zeroLine .supplied)) (λ u p t. rw (p .1) (p .0 t)) us
-          (all-both R (λ (u : Turn). getD (s .lines) (u .heater) zeroLine ≡ lineOf (u .turned)) us (meets st x l .2) (q .told)))
+-- ---- an answer by where its work ended
 
-  reported-one : (st : State) (r : Report) (x : Call) → Sound st → T (accepted (workOf m n st x .end))
-      → All (λ (u : Turn). getD (answer (holding m n st) r (workOf m n st x .end) .report .lines) (u .heater) zeroLine ≡ lineOf (u .turned)) (workOf m n st x .turns)
-  reported-one st r x l = go (workOf m n st x .end) (meets st x l .3)
-    where
-      go : (e : End) → Reach (LawOf st (workOf m n st x .turns)) e → T (accepted e) → All (λ (u : Turn). getD (answer (holding m n st) r e .report .lines) (u .heater) zeroLine ≡ lineOf (u .turned)) (workOf m n st x .turns)
-      go (refused k) q t = absurd t
-      go (done s) q t = unfold answer in (q .told)
+-- the number answered, where a refusal has one that is not 0
+abbrev NumberIs : Work → Stepped → Type 0
+NumberIs w y = ((k : ℕ) → w .end ≡ refused k → 0 < k) → (y .number ≡ numberOf (w .end)) × (T (accepted (w .end)) ↔ (y .number ≡ 0))
 
-  number-one : (st : State) (r : Report) (x : Call) → Sound st
-      → (answer (holding m n st) r (workOf m n st x .end) .number ≡ numberOf (workOf m n st x .end)) × (T (accepted (workOf m n st x .end)) ↔ (answer (holding m n st) r (workOf m n st x .end) .number ≡ 0))
-  number-one st r x l = go (workOf m n st x .end) (meets st x l .3)
-    where
-      go : (e : End) → Reach (LawOf st (workOf m n st x .turns)) e → (answer (holding m n st) r e .number ≡ numberOf e) × (T (accepted e) ↔ (answer (holding m n st) r e .number ≡ 0))
-      go (refused k) q = unfold answer in (refl, (λ t. absurd t, λ t. omega arith))
-      go (done s) q = unfold answer in (refl, (λ t. refl, λ t. tt))
+number-one : (t : StorageTank) (r : Report) (w : Work) → NumberIs w (answer t r (w .end))
+number-one t r w above = go (w .end) above
+  where
+    go : (e : End) → ((k : ℕ) → e ≡ refused k → 0 < k) → (answer t r e .number ≡ numberOf e) × (T (accepted e) ↔ (answer t r e .number ≡ 0))
+    go (refused k) f = unfold answer in (refl, (λ t. absurd t, λ t. let l = f k refl in omega arith))
+    go (done s) f = unfold answer in (refl, (λ t. refl, λ t. tt))
+
+-- an accepted step's report has the lines of its work's end
+abbrev LinesAre : Work → Stepped → Type 0
+LinesAre w y = (s : Progress) → w .end ≡ done s → y .report .lines ≡ s .lines
+
+lines-one : (t : StorageTank) (r : Report) (w : Work) → LinesAre w (answer t r (w .end))
+lines-one t r w s e = rw e (unfold answer in refl)
+
+accepted-done : (e : End) → T (accepted e) → (s : Progress) × (e ≡ done s)
+accepted-done (refused n) t = absurd t
+accepted-done (done s) t = (s, refl)
+
+abbrev LinesOf : List Turn → List HeaterLine → Type 0
+LinesOf us lines = All (λ (u : Turn). getD lines (u .heater) zeroLine ≡ lineOf (u .turned)) us
+
+lines-reported : (w : Work) (y : Stepped) → LinesAre w y → ((s : Progress) → w .end ≡ done s → LinesOf (w .turns) (s .lines)) → T (accepted (w .end)) → LinesOf (w .turns) (y .report .lines)
+lines-reported w y same told t =
+    let s = accepted-done (w .end) t in
+    subst (LinesOf (w .turns)) (sym (same (s .0) (s .1))) (told (s .0) (s .1))
+
+-- what a report says of a turn's supply is what was worked
+supplies-reported : (m : TankDesign) (w : Work) (y : Stepped) → (T (accepted (w .end)) → LinesOf (w .turns) (y .report .lines))
+    → All (λ (u : Turn). T (passed (u .turned .mixing)) → RightlySupplied m u (u .turned .supplied)) (w .turns)
+    → All (λ (u : Turn). T (passed (u .turned .mixing)) → RightlySupplied m u (suppliedIn w y u)) (w .turns)
+supplies-reported m w y told right = go (accepted (w .end)) told
+  where
+    R : Turn → Type 0
+    R u = T (passed (u .turned .mixing)) → RightlySupplied m u (u .turned .supplied)
+
+    go : (b : Bool) → (T b → LinesOf (w .turns) (y .report .lines)) → All (λ (u : Turn). T (passed (u .turned .mixing)) → RightlySupplied m u (cond b (getD (y .report .lines) (u .heater) zeroLine .supplied) (u .turned .supplied))) (w .turns)
+    go false f = right
+    go true f =
+        all-map (λ (u : Turn). R u × (getD (y .report .lines) (u .heater) zeroLine ≡ lineOf (u .turned))) (λ (u : Turn). T (passed (u .turned .mixing)) → RightlySupplied m u (getD (y .report .lines) (u .heater) zeroLine .supplied)) (λ u p t. rw (p .1) (p .0 t)) (w .turns)
+        (all-both R (λ (u : Turn). getD (y .report .lines) (u .heater) zeroLine ≡ lineOf (u .turned)) (w .turns) right (f tt))
 
 all-answered : (calls : List Call) (t : StorageTank) (r : Report) → length (answers t r calls) ≡ length calls
 unfolding answers
@@ -268,11 +198,6 @@ all-answered [] t r = refl
 all-answered (x ∷ calls) t r = ap suc (all-answered calls (answered t r x .tank) (answered t r x .report))
 
 -- ---- the demand
-
-all-false : (n i : ℕ) → getD (replicate n false) i false ≡ false
-all-false zero i = refl
-all-false (suc n) zero = refl
-all-false (suc n) (suc i) = all-false n i
 
 module _ (m : TankDesign) where
   pub made-is : (made m .number ≡ designRefusal m) × (made m .tank ≡ holding m (designRefusal m) (start m))
@@ -286,10 +211,6 @@ module _ (m : TankDesign) where
   fits : designRefusal m ≡ 0 → m .heaters ≤ maxHeaters
   fits e = made-heaters m e
 
-  sound-start : (n : ℕ) (f : n ≡ 0 → m .heaters ≤ maxHeaters) → Sound m n f (start m)
-  sound-start zero f = record { long = refl; held = refl }
-  sound-start (suc n) f = record { long = refl; held = refl }
-
   fitted-as-given : (n : ℕ) → n ≡ 0 → m .heaters ≤ maxHeaters → FittedAsGiven m (holding m n (start m))
   fitted-as-given zero z l = record { given = λ h k. clean-as-given _ _ (fitted-given (m .heaters) h (m .fitted) k (omega arith)); unused = λ h k. fitted-unused (m .heaters) h (m .fitted) k }
   fitted-as-given (suc n) z l = absurd (omega arith)
@@ -297,14 +218,11 @@ module _ (m : TankDesign) where
   pub demand3 : (r : Report) (calls : List Call) → Demand3 m calls (made m) (answers (made m .tank) r calls)
   unfolding history
   demand3 r calls = rw (made-is .1) (record {
-    flags = λ h. rw (flags-latched m n fits h calls (start m) r sound, all-false maxHeaters h) (flags-on h (run (workOf m n) (start m) calls));
-    supplies = each m n fits (λ (st : State) (x : Call) (w : Work) (y : Stepped). All (λ (u : Turn). T (passed (u .turned .mixing)) → RightlySupplied m u (suppliedIn w y u)) (w .turns)) (supplies-one m n fits) calls (start m) r sound;
-    reported = each m n fits (λ (st : State) (x : Call) (w : Work) (y : Stepped). T (accepted (w .end)) → All (λ (u : Turn). getD (y .report .lines) (u .heater) zeroLine ≡ lineOf (u .turned)) (w .turns)) (reported-one m n fits) calls (start m) r sound;
-    mixings = each m n fits (λ (st : State) (x : Call) (w : Work) (y : Stepped). All (λ (e : Event). EventOrderedOrNine (m .layers) (w .end) (e .mixing)) (w .events) × All (λ (u : Turn). OrderedOrNine (m .layers) (w .end) (u .turned .mixing)) (w .turns)) (λ st r' x l. let k = meets m n fits st x l in (k .0, k .1)) calls (start m) r sound;
-    numbers = each m n fits (λ (st : State) (x : Call) (w : Work) (y : Stepped). (y .number ≡ numberOf (w .end)) × (T (accepted (w .end)) ↔ (y .number ≡ 0))) (number-one m n fits) calls (start m) r sound;
-    order = in-working-order m;
-    refused-make = each m n fits (λ (st : State) (x : Call) (w : Work) (y : Stepped). 0 < n → w ≡ stop 1) (λ st r' x l. refused-one m n fits st x) calls (start m) r sound;
-    course = each m n fits (λ (st : State) (x : Call) (w : Work) (y : Stepped). n ≡ 0 → CourseOf m st x w) (λ st r' x l. course-one m n fits st x) calls (start m) r sound;
+    worked = worked;
+    flags = λ h. rw (last-is m n fits calls (start m) r, held-flags m n calls) (worked .flags h);
+    supplies = λ i l. supplies-reported m (getD (run (workOf m n) (start m) calls) i noWork) (getD (answers (holding m n (start m)) r calls) i noAnswer) (reported i l) (worked .supplies i l);
+    reported = reported;
+    numbers = λ i l. each m n fits NumberIs number-one calls (start m) r i l (worked .refusals i l);
     makes = (made-is .0, refl);
     fitted = λ e. fitted-as-given n e (fits e);
     carries = carries-on m n fits calls (start m) r;
@@ -314,8 +232,11 @@ module _ (m : TankDesign) where
       n : ℕ
       n = designRefusal m
 
-      sound : Sound m (designRefusal m) fits (start m)
-      sound = sound-start (designRefusal m) fits
+      worked : HistoryDemand m calls
+      worked = history-demand m calls
+
+      reported : (i : ℕ) → i < length calls → let w = getD (run (workOf m n) (start m) calls) i noWork in T (accepted (w .end)) → LinesOf (w .turns) (getD (answers (holding m n (start m)) r calls) i noAnswer .report .lines)
+      reported i l = lines-reported (getD (run (workOf m n) (start m) calls) i noWork) (getD (answers (holding m n (start m)) r calls) i noAnswer) (each m n fits LinesAre lines-one calls (start m) r i l) (worked .reported i l)
 
   -- ---- the same of whatever was answered, if each answer is what its call promises
 

@@ -17,20 +17,21 @@ use Rattle.draw_off.specs.Event.{Event}
 use Rattle.draw_off.proofs.Keeps.{events-keep}
 use Rattle.heating.proofs.Keeps.{turn-keeps-temps}
 use Rattle.working_order.specs.Order.{maxHeaters}
-use Rattle.storage_tank.specs.declared.TankDesign.{TankDesign}
+use Rattle.tank_model.specs.declared.TankDesign.{TankDesign}
 use Rattle.storage_tank.specs.declared.StorageTank.{StorageTank}
 use Rattle.storage_tank.specs.declared.Report.{Report}
-use Rattle.storage_tank.specs.declared.Step.{Step}
-use Rattle.storage_tank.specs.Fixed.{Fixed, State, immersionOf, fixedIn, stateIn}
-use Rattle.storage_tank.specs.Order.{workingOrder}
-use Rattle.storage_tank.specs.Checks.{pointsOf, stepRefusal}
-use Rattle.storage_tank.specs.Work.{Progress, Turn, End, refused, done, Work, resume, andThen, endBy, events, wantedVolumes, withAverage, turnOf, zeroLine, afterTurn, heaterTurn, turns, opening, closed, begin, work}
-use Rattle.storage_tank.specs.History.{Call, step, designRefusal}
+use Rattle.tank_model.specs.declared.Step.{Step}
+use Rattle.tank_model.specs.Fixed.{Fixed, State, immersionOf}
+use Rattle.storage_tank.specs.Tank.{fixedIn, stateIn}
+use Rattle.tank_model.specs.Order.{workingOrder}
+use Rattle.tank_model.specs.Checks.{pointsOf, stepRefusal}
+use Rattle.tank_model.specs.Work.{Progress, Turn, End, refused, done, Work, resume, andThen, endBy, events, wantedVolumes, withAverage, turnOf, zeroLine, afterTurn, heaterTurn, turns, opening, closed, begin, work}
+use Rattle.tank_model.specs.History.{Call, step, designRefusal}
 use Rattle.storage_tank.specs.Calls.{made, madeOf, answer, stepped, answered, answers}
 use Rattle.storage_tank.specs.Demand.{noAnswer}
-use Rattle.storage_tank.specs.Members.{All}
-use Rattle.storage_tank.proofs.Order.{many-placed, order-below}
-use Rattle.storage_tank.proofs.StepWorked.{events-end}
+use Rattle.tank_model.specs.Members.{All}
+use Rattle.tank_model.proofs.Order.{many-placed, order-below}
+use Rattle.step_work.proofs.StepWorked.{events-end}
 
 -- ---- what holds of where a work ended, if it was not refused
 

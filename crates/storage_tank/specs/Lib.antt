@@ -1,12 +1,5 @@
--- The tank's definitions in 01's order, the history that demand 3 speaks of, and demand 3 itself.
-pub mod Fixed
-pub mod Order
-pub mod Checks
-pub mod Work
-pub mod Arrays
-pub mod Lent
-pub mod History
+-- What a tank holds, what the calls make and step answer, and demand 3.
+pub mod Tank
 pub mod Calls
-pub mod Members
-pub mod Course
+pub mod Answers
 pub mod Demand

@@ -8,10 +8,10 @@ ghost use lib.ListN.{drop, replicate};
 ghost use Rattle.numeric.specs.Double.{zero-f};
 ghost use Rattle.mixing.specs.Limits.{maxLayers};
 ghost use Rattle.storage_tank.specs.Calls.{zeroHeater, cleanHeater, fittedHeaters, zeroTank, newTank, made};
-use crate::Heater;
+use tank_model::Heater;
 use crate::Made;
 use crate::StorageTank;
-use crate::TankDesign;
+use tank_model::TankDesign;
 use mixing::limits::MAX_LAYERS;
 use working_order::MAX_HEATERS;
 
@@ -124,7 +124,7 @@ impl StorageTank {
     pub fn new(m: TankDesign) -> Made
         ensures { λ r. ⌜ r ≡ made m ⌝ }
     {
-        let n = crate::refusals::make_refusal(m);
+        let n = step_work::refusals::make_refusal(m);
         if n != 0 {
             return Made {
                 number: n,

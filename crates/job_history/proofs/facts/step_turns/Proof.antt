@@ -4,7 +4,7 @@ use mathlib.Core.List.{List, []}
 use Prim.Native.Nat.{_≤_}
 use native.Mathlib.Omega.{arith}
 use Rattle.working_order.specs.Order.{maxHeaters}
-use Rattle.storage_tank.proofs.StepWorked.{step-counts}
+use Rattle.step_work.proofs.StepWorked.{step-counts}
 use Rattle.job_history.specs.declared.TurnFact.{TurnFact}
 use Rattle.job_history.specs.declared.Turns.{Turns}
 use Rattle.job_history.specs.Facts.{turnsOf}

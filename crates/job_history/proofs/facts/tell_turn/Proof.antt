@@ -5,8 +5,8 @@ use Prim.Native.Nat.{ℕ, _≤_, _<_}
 use Rattle.numeric.proofs.Layer.{layer-below}
 use Rattle.mixing.specs.Limits.{maxLayers}
 use Rattle.heating.specs.declared.turn.Immersion.{Immersion}
-use Rattle.storage_tank.specs.declared.Heater.{Heater}
-use Rattle.storage_tank.specs.Lent.{immersion}
+use Rattle.tank_model.specs.declared.Heater.{Heater}
+use Rattle.step_work.specs.Lent.{immersion}
 use borrow.Author.Needs.{needs}
 use Rattle.job_history.proofs.facts.tell_turn.Statement.{statement}
 use Rattle.job_history.proofs.facts.tell_turn.Tie as tie

@@ -5,7 +5,7 @@ use native.Mathlib.Omega.{arith}
 use lib.Ieee.{Float}
 use Rattle.working_order.specs.Order.{risingOrder}
 use Rattle.working_order.proofs.Entries.{entry}
-use Rattle.storage_tank.proofs.TurnLoop.{order-is}
+use Rattle.step_work.proofs.TurnLoop.{order-is}
 use borrow.Author.Needs.{needs}
 use Rattle.job_history.proofs.facts.tell_turns.Statement.{statement}
 use Rattle.job_history.proofs.facts.tell_turns.Tie as tie

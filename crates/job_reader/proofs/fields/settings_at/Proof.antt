@@ -3,7 +3,7 @@ use Rattle.numeric.specs.Tabulate.{tabulate}
 use mathlib.Core.Path.{_≡_, refl}
 use Prim.Native.Nat.{_-_, _≤_}
 use native.Mathlib.Omega.{arith}
-use Rattle.storage_tank.specs.Checks.{noSetting}
+use Rattle.tank_model.specs.Checks.{noSetting}
 use Rattle.job_reader.specs.Fields.{filled, noSettings, settingAt, settingsAt}
 use Rattle.job_reader.proofs.Filling.{filled-turn}
 use borrow.Author.Needs.{needs}

@@ -1,7 +1,8 @@
 -- `StorageTank::demand_hot_water`, the call step, meets its contract (01, The four calls; Step): the arrays hold the tank and the step, whose work decides.
 use mathlib.Core.Path.{refl}
-use Rattle.storage_tank.proofs.LentArrays.{tank-back, step-back}
-use Rattle.storage_tank.proofs.StepWorked.{worked-for}
+use Rattle.step_work.proofs.LentArrays.{step-back}
+use Rattle.step_work.proofs.StepWorked.{worked-for}
+use Rattle.storage_tank.proofs.Answers.{fixed-back, step-refuses, step-accepts}
 use borrow.Author.Needs.{needs}
 use Rattle.storage_tank.proofs.StorageTank.demand_hot_water.Statement.{statement}
 use Rattle.storage_tank.proofs.StorageTank.demand_hot_water.Tie as tie
@@ -29,9 +30,9 @@ returns c =
     let i = c .before .before .before .before .before .before .before .before .before .before .before .before .before .before .before .before .before .before .before .before .before .before .before .args in
     let h = c .before .before .before .before .before .before .before .before .before .before .before .before .before .before .before .before .before .before .before .before .before .heaters-of .ensures in
     let p = c .before .before .before .before .before .before .before .before .before .before .before .before .before .before .before .before .before .before .present-of .ensures in
-    let tank = tank-back (i .self) _ _ _ (c .before .before .before .before .before .before .before .before .before .before .before .before .before .before .before .before .cylinder-in .ensures) (h .0) (c .before .before .before .before .before .before .before .before .before .before .before .before .before .before .before .before .before .before .before .before .thermostats-of .ensures) (h .1) in
+    let fixed = fixed-back (i .self) _ _ _ (c .before .before .before .before .before .before .before .before .before .before .before .before .before .before .before .before .cylinder-in .ensures) (h .0) (c .before .before .before .before .before .before .before .before .before .before .before .before .before .before .before .before .before .before .before .before .thermostats-of .ensures) (h .1) in
     let step = step-back (i .t3) _ _ (p .0) (c .before .before .before .before .before .before .before .before .before .before .before .before .before .before .before .before .before .set-points-of .ensures) (p .1) in
-    worked-for _ _ _ _ _ _ _ _ tank step (c .before .before .work-step .ensures .0) .refuses (i .report) (c .if1 .taken)
+    step-refuses (i .self) (i .report) (i .t3) _ _ _ _ (worked-for _ _ _ _ _ _ _ _ _ fixed step (c .before .before .work-step .ensures .0)) (c .if1 .taken)
 
 lines-in-requires : tie.Need-lines-in-requires
 lines-in-requires c κs = search needs
@@ -44,9 +45,9 @@ returns-2 c =
     let i = c .before .before .before .before .before .before .before .before .before .before .before .before .before .before .before .before .before .before .before .before .before .before .before .before .before .args in
     let h = c .before .before .before .before .before .before .before .before .before .before .before .before .before .before .before .before .before .before .before .before .before .before .before .heaters-of .ensures in
     let p = c .before .before .before .before .before .before .before .before .before .before .before .before .before .before .before .before .before .before .before .before .present-of .ensures in
-    let tank = tank-back (i .self) _ _ _ (c .before .before .before .before .before .before .before .before .before .before .before .before .before .before .before .before .before .before .cylinder-in .ensures) (h .0) (c .before .before .before .before .before .before .before .before .before .before .before .before .before .before .before .before .before .before .before .before .before .before .thermostats-of .ensures) (h .1) in
+    let fixed = fixed-back (i .self) _ _ _ (c .before .before .before .before .before .before .before .before .before .before .before .before .before .before .before .before .before .before .cylinder-in .ensures) (h .0) (c .before .before .before .before .before .before .before .before .before .before .before .before .before .before .before .before .before .before .before .before .before .before .thermostats-of .ensures) (h .1) in
     let step = step-back (i .t3) _ _ (p .0) (c .before .before .before .before .before .before .before .before .before .before .before .before .before .before .before .before .before .before .before .set-points-of .ensures) (p .1) in
-    rw (c .accepted .ensures, c .before .lines-in .ensures) (worked-for _ _ _ _ _ _ _ _ tank step (c .before .before .before .before .work-step .ensures .0) .accepts (i .report) (c .before .before .if1 .left))
+    rw (c .accepted .ensures, c .before .lines-in .ensures) (step-accepts (i .self) (i .report) (i .t3) _ _ _ _ (worked-for _ _ _ _ _ _ _ _ _ fixed step (c .before .before .before .before .work-step .ensures .0)) (c .before .before .if1 .left))
 
 pub demand-hot-water-spec : {M : Type 1} → statement M
 demand-hot-water-spec =

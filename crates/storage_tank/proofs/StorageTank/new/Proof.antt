@@ -1,6 +1,6 @@
 -- `StorageTank::new`, the call make, meets its contract (01, The four calls).
 use mathlib.Core.Path.{sym, _∙_}
-use Rattle.storage_tank.proofs.FirstRefusal.{made-refused, made-accepted, made-layers}
+use Rattle.storage_tank.proofs.Answers.{made-refused, made-accepted, made-layers}
 use borrow.Author.Needs.{needs}
 use Rattle.storage_tank.proofs.StorageTank.new.Statement.{statement}
 use Rattle.storage_tank.proofs.StorageTank.new.Tie as tie

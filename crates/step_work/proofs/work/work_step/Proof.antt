@@ -1,0 +1,149 @@
+-- `work_step` meets its contract (01, Step): each of its parts may refuse the step; else it is accepted with what they leave.
+use mathlib.Core.Path.{refl, sym, _∙_}
+use native.Mathlib.Omega.{arith}
+use borrow.Author.Tests.{not-true, not-false}
+use Rattle.tank_model.specs.Fixed.{State}
+use Rattle.step_work.specs.Arrays.{fittedIn, fixedWith, stepWith}
+use Rattle.step_work.proofs.LentArrays.{zeros-hold, zeros-unheated}
+use Rattle.step_work.proofs.TurnLoop.{start-with}
+use Rattle.step_work.proofs.FirstRefusal.{step-counts}
+use Rattle.step_work.proofs.StepWorked.{refused-worked, step-refused, drawn-refused, heated-refused, close-refused, step-accepted}
+use borrow.Author.Needs.{needs}
+use Rattle.step_work.proofs.work.work_step.Statement.{statement}
+use Rattle.step_work.proofs.work.work_step.Tie as tie
+
+lent-refusal-requires : tie.Need-lent-refusal-requires
+lent-refusal-requires c κs = search needs
+
+refused-requires : tie.Need-refused-requires
+refused-requires c κs = search needs
+
+returns : tie.Need-returns
+returns c =
+    let i = c .before .before .before .before .args in
+    let f = fixedWith (i .c) (i .n) (i .heaters .now) (i .thermostats .now) in
+    let st : State = record { temps = i .temps .now; flags = i .on .now } in
+    let a = stepWith (i .feed) (i .events) (i .volumes .now) (i .entries) (i .present .now) (i .points .now) in
+    (refused-worked f st a _ _ _ _ _ (c .refused .ensures) (c .before .if1 .taken) (step-refused f st a _ (c .before .before .lent-refusal .ensures (i .on .now)) (c .before .if1 .taken)), λ z. absurd (c .before .if1 .taken (sym (c .refused .ensures) ∙ z)))
+
+layer-volumes-requires : tie.Need-layer-volumes-requires
+layer-volumes-requires c κs =
+    let i = c .before .before .before .args in
+    let f = fixedWith (i .c) (i .n) (i .heaters .now) (i .thermostats .now) in
+    let st : State = record { temps = i .temps .now; flags = i .on .now } in
+    let a = stepWith (i .feed) (i .events) (i .volumes .now) (i .entries) (i .present .now) (i .points .now) in
+    let passed = sym (c .before .lent-refusal .ensures (i .on .now)) ∙ c .if1 .left in
+    step-counts (i .c) (i .n) (fittedIn (i .heaters .now) (i .thermostats .now)) st a passed .1
+
+no-totals-requires : tie.Need-no-totals-requires
+no-totals-requires c κs = search needs
+
+draw-events-requires : tie.Need-draw-events-requires
+draw-events-requires c κs =
+    let i = c .before .before .before .before .before .before .before .args in
+    let f = fixedWith (i .c) (i .n) (i .heaters .now) (i .thermostats .now) in
+    let st : State = record { temps = i .temps .now; flags = i .on .now } in
+    let a = stepWith (i .feed) (i .events) (i .volumes .now) (i .entries) (i .present .now) (i .points .now) in
+    let passed = sym (c .before .before .before .before .before .lent-refusal .ensures (i .on .now)) ∙ c .before .before .before .before .if1 .left in
+    let n = step-counts (i .c) (i .n) (fittedIn (i .heaters .now) (i .thermostats .now)) st a passed in
+    (n .0, n .1, c .before .before .before .layer-volumes .ensures, n .3)
+
+refused-requires-2 : tie.Need-refused-requires-2
+refused-requires-2 c κs = search needs
+
+returns-2 : tie.Need-returns-2
+returns-2 c =
+    let i = c .before .before .before .before .before .before .before .before .before .before .before .args in
+    let f = fixedWith (i .c) (i .n) (i .heaters .now) (i .thermostats .now) in
+    let st : State = record { temps = i .temps .now; flags = i .on .now } in
+    let a = stepWith (i .feed) (i .events) (i .volumes .now) (i .entries) (i .present .now) (i .points .now) in
+    let passed = sym (c .before .before .before .before .before .before .before .before .before .lent-refusal .ensures (i .on .now)) ∙ c .before .before .before .before .before .before .before .before .if1 .left in
+    let d = c .before .before .before .draw-events .result in
+    let drawn = rw (c .before .before .before .before .no-totals .ensures) at (c .before .before .before .draw-events .ensures) in
+    (refused-worked f st a _ _ _ _ _ (c .refused2 .ensures) (c .before .if2 .taken) (drawn-refused f st a passed _ d drawn (c .before .if2 .taken)), λ z. absurd (c .before .if2 .taken (sym (c .refused2 .ensures) ∙ z)))
+
+average-of-requires : tie.Need-average-of-requires
+average-of-requires c κs =
+    let i = c .before .before .before .before .before .before .before .before .before .before .before .before .args in
+    let f = fixedWith (i .c) (i .n) (i .heaters .now) (i .thermostats .now) in
+    let st : State = record { temps = i .temps .now; flags = i .on .now } in
+    let a = stepWith (i .feed) (i .events) (i .volumes .now) (i .entries) (i .present .now) (i .points .now) in
+    let passed = sym (c .before .before .before .before .before .before .before .before .before .before .lent-refusal .ensures (i .on .now)) ∙ c .before .before .before .before .before .before .before .before .before .if1 .left in
+    let n = step-counts (i .c) (i .n) (fittedIn (i .heaters .now) (i .thermostats .now)) st a passed in
+    (n .0, n .1)
+
+heat-turns-requires : tie.Need-heat-turns-requires
+heat-turns-requires c κs =
+    let i = c .before .before .before .before .before .before .before .before .before .before .before .before .before .before .before .before .before .before .before .before .args in
+    let f = fixedWith (i .c) (i .n) (i .heaters .now) (i .thermostats .now) in
+    let st : State = record { temps = i .temps .now; flags = i .on .now } in
+    let a = stepWith (i .feed) (i .events) (i .volumes .now) (i .entries) (i .present .now) (i .points .now) in
+    let passed = sym (c .before .before .before .before .before .before .before .before .before .before .before .before .before .before .before .before .before .before .lent-refusal .ensures (i .on .now)) ∙ c .before .before .before .before .before .before .before .before .before .before .before .before .before .before .before .before .before .if1 .left in
+    let n = step-counts (i .c) (i .n) (fittedIn (i .heaters .now) (i .thermostats .now)) st a passed in
+    (n .0, n .1, n .2, c .before .before .before .before .before .before .before .before .before .before .before .before .before .before .before .before .layer-volumes .ensures, zeros-hold _ _ _ (c .before .before .before .before .before .before .before .before .before .before .before .before .before .before .before .before .before .before .before .before .pre))
+
+refused-requires-3 : tie.Need-refused-requires-3
+refused-requires-3 c κs = search needs
+
+returns-3 : tie.Need-returns-3
+returns-3 c =
+    let i = c .before .before .before .before .before .before .before .before .before .before .before .before .before .before .before .before .before .before .before .before .before .before .before .before .args in
+    let f = fixedWith (i .c) (i .n) (i .heaters .now) (i .thermostats .now) in
+    let st : State = record { temps = i .temps .now; flags = i .on .now } in
+    let a = stepWith (i .feed) (i .events) (i .volumes .now) (i .entries) (i .present .now) (i .points .now) in
+    let passed = sym (c .before .before .before .before .before .before .before .before .before .before .before .before .before .before .before .before .before .before .before .before .before .before .lent-refusal .ensures (i .on .now)) ∙ c .before .before .before .before .before .before .before .before .before .before .before .before .before .before .before .before .before .before .before .before .before .if1 .left in
+    let d = c .before .before .before .before .before .before .before .before .before .before .before .before .before .before .before .before .draw-events .result in
+    let drawn = rw (c .before .before .before .before .before .before .before .before .before .before .before .before .before .before .before .before .before .no-totals .ensures) at (c .before .before .before .before .before .before .before .before .before .before .before .before .before .before .before .before .draw-events .ensures) in
+    let zeros = zeros-unheated (i .on .now) (i .figures .now) (i .flags .now) (i .rounds .now) (c .before .before .before .before .before .before .before .before .before .before .before .before .before .before .before .before .before .before .before .before .before .before .before .before .pre) in
+    (refused-worked f st a _ _ _ _ _ (c .refused3 .ensures) (c .before .if3 .taken) (heated-refused f st a passed _ d drawn (c .before .before .before .before .before .before .before .before .before .before .before .before .before .before .if2 .left) _ (c .before .before .before .before .before .before .before .before .before .before .before .average-of .ensures) _ _ _ (λ s x. start-with _ _ _ _ s x _ _ _ _ _ zeros ∙ c .before .before .before .heat-turns .ensures .0 s x) (c .before .if3 .taken)), λ z. absurd (c .before .if3 .taken (sym (c .refused3 .ensures) ∙ z)))
+
+are-both-finite-requires : tie.Need-are-both-finite-requires
+are-both-finite-requires c κs = search needs
+
+refused-requires-4 : tie.Need-refused-requires-4
+refused-requires-4 c κs = search needs
+
+returns-4 : tie.Need-returns-4
+returns-4 c =
+    let i = c .before .before .before .before .before .before .before .before .before .before .before .before .before .before .before .before .before .before .before .before .before .before .before .before .before .before .before .args in
+    let f = fixedWith (i .c) (i .n) (i .heaters .now) (i .thermostats .now) in
+    let st : State = record { temps = i .temps .now; flags = i .on .now } in
+    let a = stepWith (i .feed) (i .events) (i .volumes .now) (i .entries) (i .present .now) (i .points .now) in
+    let passed = sym (c .before .before .before .before .before .before .before .before .before .before .before .before .before .before .before .before .before .before .before .before .before .before .before .before .before .lent-refusal .ensures (i .on .now)) ∙ c .before .before .before .before .before .before .before .before .before .before .before .before .before .before .before .before .before .before .before .before .before .before .before .before .if1 .left in
+    let d = c .before .before .before .before .before .before .before .before .before .before .before .before .before .before .before .before .before .before .before .draw-events .result in
+    let drawn = rw (c .before .before .before .before .before .before .before .before .before .before .before .before .before .before .before .before .before .before .before .before .no-totals .ensures) at (c .before .before .before .before .before .before .before .before .before .before .before .before .before .before .before .before .before .before .before .draw-events .ensures) in
+    let zeros = zeros-unheated (i .on .now) (i .figures .now) (i .flags .now) (i .rounds .now) (c .before .before .before .before .before .before .before .before .before .before .before .before .before .before .before .before .before .before .before .before .before .before .before .before .before .before .before .pre) in
+    (refused-worked f st a _ _ _ _ _ (c .refused4 .ensures) (λ e. omega arith) (close-refused f st a passed _ d drawn (c .before .before .before .before .before .before .before .before .before .before .before .before .before .before .before .before .before .if2 .left) _ (c .before .before .before .before .before .before .before .before .before .before .before .before .before .before .average-of .ensures) _ _ _ (λ s x. start-with _ _ _ _ s x _ _ _ _ _ zeros ∙ c .before .before .before .before .before .before .heat-turns .ensures .0 s x) (c .before .before .before .before .if3 .left) (sym (c .before .before .are-both-finite .ensures) ∙ not-true _ (c .before .if4 .taken))), λ z. let e = sym (c .refused4 .ensures) ∙ z in absurd (omega arith))
+
+returns-5 : tie.Need-returns-5
+returns-5 c =
+    let i = c .before .before .before .before .before .before .before .before .before .before .before .before .before .before .before .before .before .before .before .before .before .before .before .before .before .before .args in
+    let f = fixedWith (i .c) (i .n) (i .heaters .now) (i .thermostats .now) in
+    let st : State = record { temps = i .temps .now; flags = i .on .now } in
+    let a = stepWith (i .feed) (i .events) (i .volumes .now) (i .entries) (i .present .now) (i .points .now) in
+    let passed = sym (c .before .before .before .before .before .before .before .before .before .before .before .before .before .before .before .before .before .before .before .before .before .before .before .before .lent-refusal .ensures (i .on .now)) ∙ c .before .before .before .before .before .before .before .before .before .before .before .before .before .before .before .before .before .before .before .before .before .before .before .if1 .left in
+    let d = c .before .before .before .before .before .before .before .before .before .before .before .before .before .before .before .before .before .before .draw-events .result in
+    let drawn = rw (c .before .before .before .before .before .before .before .before .before .before .before .before .before .before .before .before .before .before .before .no-totals .ensures) at (c .before .before .before .before .before .before .before .before .before .before .before .before .before .before .before .before .before .before .draw-events .ensures) in
+    let zeros = zeros-unheated (i .on .now) (i .figures .now) (i .flags .now) (i .rounds .now) (c .before .before .before .before .before .before .before .before .before .before .before .before .before .before .before .before .before .before .before .before .before .before .before .before .before .before .pre) in
+    (step-accepted f st a passed _ d drawn (c .before .before .before .before .before .before .before .before .before .before .before .before .before .before .before .before .if2 .left) _ (c .before .before .before .before .before .before .before .before .before .before .before .before .before .average-of .ensures) _ _ _ (λ s x. start-with _ _ _ _ s x _ _ _ _ _ zeros ∙ c .before .before .before .before .before .heat-turns .ensures .0 s x) (c .before .before .before .if3 .left) (sym (c .before .are-both-finite .ensures) ∙ not-false _ (c .if4 .left)), λ z. c .before .before .before .before .before .heat-turns .ensures .1)
+
+pub work-step-spec : {M : Type 1} → statement M
+work-step-spec =
+    tie.close
+    (tie.spec
+    lent-refusal-requires
+    refused-requires
+    returns
+    layer-volumes-requires
+    no-totals-requires
+    draw-events-requires
+    refused-requires-2
+    returns-2
+    average-of-requires
+    heat-turns-requires
+    refused-requires-3
+    returns-3
+    are-both-finite-requires
+    refused-requires-4
+    returns-4
+    returns-5)

@@ -1,0 +1,3 @@
+-- How the code of a step holds what the definitions speak of.
+pub mod Arrays
+pub mod Lent

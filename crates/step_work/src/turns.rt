@@ -1,0 +1,217 @@
+// The heaters' turns of a step, in working order, each on the layers left by the one before.
+ghost use mathlib.Core.Path.{_≡_};
+ghost use mathlib.Core.Bool.{Bool, false};
+ghost use mathlib.Core.List.{List};
+ghost use Prim.Native.Nat.{ℕ, _≤_, _<_};
+ghost use lib.ListN.{getD, length, take};
+ghost use Rattle.numeric.specs.Tabulate.{tabulate};
+ghost use Rattle.mixing.specs.Limits.{maxLayers};
+ghost use Rattle.cylinder.specs.Layers.{layerVolumes};
+ghost use Rattle.heating.specs.Turn.{turn};
+ghost use Rattle.working_order.specs.Order.{maxHeaters};
+ghost use Rattle.tank_model.specs.Fixed.{noHeater};
+ghost use Rattle.tank_model.specs.Order.{workingOrder};
+ghost use Rattle.tank_model.specs.Work.{zeroLine};
+ghost use Rattle.step_work.specs.Arrays.{fittedIn, settingsIn, HoldsLines, fixedWith};
+ghost use Rattle.step_work.specs.Lent.{immersion, noTurns, heatedIn, TurnWorked, TurnsWorked};
+use tank_model::Heater;
+use tank_model::HeaterLine;
+use crate::arrays::THREE_EACH;
+use crate::arrays::TWO_EACH;
+use cylinder::Cylinder;
+use heating::SetPoints;
+use heating::turn::Immersion;
+use mixing::limits::MAX_LAYERS;
+use working_order::MAX_HEATERS;
+
+// Where the turns have come to, besides what they write in lent arrays: the number of 01's refusal or 0, and the heaters' losses so far.
+pub struct TurnsAnswer {
+    pub number: u8,
+    pub losses: f64,
+}
+
+pub fn zero_line() -> HeaterLine
+    ensures { λ r. ⌜ r ≡ zeroLine ⌝ }
+{
+    HeaterLine {
+        flag: false,
+        adjusted: 0.0,
+        supplied: 0.0,
+        losses: 0.0,
+        rounds: 0,
+    }
+}
+
+// Before the first turn.
+pub fn no_turns() -> TurnsAnswer
+    ensures { λ r. ⌜ r ≡ noTurns ⌝ }
+{
+    TurnsAnswer {
+        number: 0,
+        losses: 0.0,
+    }
+}
+
+// The heater with the layers that a step finds for it.
+pub fn immersion_of(n: usize, x: Heater) -> Immersion
+    requires { ⌜ n ≤ maxLayers ⌝ }
+    ensures { λ r. ⌜ r ≡ immersion n x ⌝ }
+{
+    Immersion {
+        rated: x.rated,
+        layer: numeric::whole::layer_of(x.position, n),
+        thermostat: numeric::whole::layer_of(crate::checks::thermostat_position(x), n),
+    }
+}
+
+// The turn of the heater given as h: its flag and its line are written.
+fn heat_turn(
+    c: Cylinder,
+    vol: &[f64; MAX_LAYERS],
+    x: Heater,
+    h: usize,
+    p: SetPoints,
+    s: TurnsAnswer,
+    temps: &mut [f64; MAX_LAYERS],
+    charged: &mut [f64; MAX_LAYERS],
+    on: &mut [bool; MAX_HEATERS],
+    figures: &mut [f64; THREE_EACH],
+    flags: &mut [bool; MAX_HEATERS],
+    rounds: &mut [usize; MAX_HEATERS],
+) -> TurnsAnswer
+    requires { ⌜ (1 ≤ c .layers) × (c .layers ≤ maxLayers) × (h < maxHeaters) × HoldsLines (now figures) (now flags) (now rounds) ⌝ }
+    ensures { λ r. ⌜ TurnWorked c h (turn c (now (vol .entry)) (immersion (c .layers) x) p (now (temps .entry)) (now (charged .entry)) (getD (now (on .entry)) h false)) (heatedIn s (now (on .entry)) (now (figures .entry)) (now (flags .entry)) (now (rounds .entry))) (heatedIn r (now (on .exit)) (now (figures .exit)) (now (flags .exit)) (now (rounds .exit))) (now (temps .exit)) (now (charged .exit)) × HoldsLines (now (figures .exit)) (now (flags .exit)) (now (rounds .exit)) ⌝ }
+{
+    let i = immersion_of(c.layers, x);
+    let u = heating::turn::turn(c, vol, i, p, on[h], temps, charged);
+    on[h] = u.flag;
+    let line = HeaterLine {
+        flag: u.flag,
+        adjusted: u.adjusted,
+        supplied: u.supplied,
+        losses: u.losses,
+        rounds: u.rounds,
+    };
+    crate::arrays::write_line(h, line, figures, flags, rounds);
+    TurnsAnswer {
+        number: u.number,
+        losses: s.losses + u.losses,
+    }
+}
+
+// The heaters' positions, as given.
+pub fn positions_of(fitted: [Heater; MAX_HEATERS]) -> [f64; MAX_HEATERS]
+    ensures { λ r. ⌜ r ≡ tabulate (λ (h : ℕ). getD fitted h noHeater .position) maxHeaters 0 ⌝ }
+{
+    let mut positions = [0.0; MAX_HEATERS];
+    let mut h = 0;
+    while h < MAX_HEATERS {
+        let x = fitted[h];
+        positions[h] = x.position;
+        h += 1;
+    }
+    positions
+}
+
+// The same, from the array that holds them.
+fn positions_in(heaters: &[f64; THREE_EACH]) -> [f64; MAX_HEATERS]
+    ensures { λ r. ⌜ ((thermostats : List Bool) → r ≡ tabulate (λ (h : ℕ). getD (fittedIn (now (heaters .entry)) thermostats) h noHeater .position) maxHeaters 0) ⌝ }
+{
+    [
+        heaters[8],
+        heaters[9],
+        heaters[10],
+        heaters[11],
+        heaters[12],
+        heaters[13],
+        heaters[14],
+        heaters[15],
+    ]
+}
+
+// The turns of n heaters in the order of work, up to the one that ends the step.
+fn heat_in_order(
+    c: Cylinder,
+    vol: &[f64; MAX_LAYERS],
+    n: usize,
+    heaters: &[f64; THREE_EACH],
+    thermostats: &[bool; MAX_HEATERS],
+    present: &[bool; TWO_EACH],
+    points: &[f64; TWO_EACH],
+    order: &[usize; MAX_HEATERS],
+    temps: &mut [f64; MAX_LAYERS],
+    charged: &mut [f64; MAX_LAYERS],
+    on: &mut [bool; MAX_HEATERS],
+    figures: &mut [f64; THREE_EACH],
+    flags: &mut [bool; MAX_HEATERS],
+    rounds: &mut [usize; MAX_HEATERS],
+) -> TurnsAnswer
+    requires { ⌜ (1 ≤ c .layers) × (c .layers ≤ maxLayers) × (n ≤ maxHeaters) × (now vol ≡ layerVolumes c) × (length (now order) ≡ maxHeaters) × ((k : ℕ) → k < n → getD (now order) k 0 < n) × HoldsLines (now figures) (now flags) (now rounds) ⌝ }
+    ensures { λ r. ⌜ TurnsWorked c n (fittedIn (now (heaters .entry)) (now (thermostats .entry))) (settingsIn (now (present .entry)) (now (points .entry))) (take n (now (order .entry))) (now (temps .entry)) (now (charged .entry)) (heatedIn noTurns (now (on .entry)) (now (figures .entry)) (now (flags .entry)) (now (rounds .entry))) (heatedIn r (now (on .exit)) (now (figures .exit)) (now (flags .exit)) (now (rounds .exit))) (now (temps .exit)) (now (charged .exit)) × HoldsLines (now (figures .exit)) (now (flags .exit)) (now (rounds .exit)) ⌝ }
+{
+    let mut s = no_turns();
+    let mut k = 0;
+    while k < n {
+        let h = order[k];
+        let x = crate::arrays::heater_at(heaters, thermostats, h);
+        let p = crate::arrays::points_at(present, points, h);
+        s = heat_turn(
+            c,
+            vol,
+            x,
+            h,
+            p,
+            s,
+            temps,
+            charged,
+            on,
+            figures,
+            flags,
+            rounds,
+        );
+        if s.number != 0 {
+            return s;
+        }
+        k += 1;
+    }
+    s
+}
+
+// `on` holds the heaters' flags; `figures`, `flags` and `rounds` take the report's lines.
+pub fn heat_turns(
+    c: Cylinder,
+    vol: &[f64; MAX_LAYERS],
+    n: usize,
+    heaters: &[f64; THREE_EACH],
+    thermostats: &[bool; MAX_HEATERS],
+    present: &[bool; TWO_EACH],
+    points: &[f64; TWO_EACH],
+    temps: &mut [f64; MAX_LAYERS],
+    charged: &mut [f64; MAX_LAYERS],
+    on: &mut [bool; MAX_HEATERS],
+    figures: &mut [f64; THREE_EACH],
+    flags: &mut [bool; MAX_HEATERS],
+    rounds: &mut [usize; MAX_HEATERS],
+) -> TurnsAnswer
+    requires { ⌜ (1 ≤ c .layers) × (c .layers ≤ maxLayers) × (n ≤ maxHeaters) × (now vol ≡ layerVolumes c) × HoldsLines (now figures) (now flags) (now rounds) ⌝ }
+    ensures { λ r. ⌜ TurnsWorked c n (fittedIn (now (heaters .entry)) (now (thermostats .entry))) (settingsIn (now (present .entry)) (now (points .entry))) (workingOrder (fixedWith c n (now (heaters .entry)) (now (thermostats .entry)))) (now (temps .entry)) (now (charged .entry)) (heatedIn noTurns (now (on .entry)) (now (figures .entry)) (now (flags .entry)) (now (rounds .entry))) (heatedIn r (now (on .exit)) (now (figures .exit)) (now (flags .exit)) (now (rounds .exit))) (now (temps .exit)) (now (charged .exit)) × HoldsLines (now (figures .exit)) (now (flags .exit)) (now (rounds .exit)) ⌝ }
+{
+    let positions = positions_in(heaters);
+    let order = working_order::working_order(n, &positions);
+    heat_in_order(
+        c,
+        vol,
+        n,
+        heaters,
+        thermostats,
+        present,
+        points,
+        &order,
+        temps,
+        charged,
+        on,
+        figures,
+        flags,
+        rounds,
+    )
+}

@@ -1,0 +1,147 @@
+// A step's work, from checks to end, on lent arrays.
+ghost use mathlib.Core.Path.{_≡_};
+ghost use mathlib.Core.Bool.{cond, _&&_};
+ghost use Prim.Native.Nat.{_-_, _≤_};
+ghost use lib.Ieee.{nan};
+ghost use lib.Ieee.Scale.{finite};
+ghost use lib.ListN.{getD};
+ghost use Rattle.numeric.specs.Double.{_⊘_, zero-f};
+ghost use Rattle.numeric.specs.Close.{wideClose};
+ghost use Rattle.mixing.specs.Limits.{maxLayers};
+ghost use Rattle.step_work.specs.Arrays.{linesIn, HoldsLines, ZeroLines, fixedWith, stepWith};
+ghost use Rattle.step_work.specs.Lent.{noTotals, StepWorked};
+use crate::arrays::THREE_EACH;
+use crate::arrays::TWO_EACH;
+use cylinder::Cylinder;
+use draw_off::Totals;
+use draw_off::event::MAX_EVENTS;
+use mixing::limits::MAX_LAYERS;
+use working_order::MAX_HEATERS;
+
+// Before the first event.
+pub fn no_totals() -> Totals
+    ensures { λ r. ⌜ r ≡ noTotals ⌝ }
+{
+    Totals {
+        energy: 0.0,
+        used: 0.0,
+        weighted: 0.0,
+        drawn: 0.0,
+    }
+}
+
+// Weighted sum / volume drawn, or the top layer if that volume is wide-close to 0.
+fn average_of(n: usize, temps: &[f64; MAX_LAYERS], t: Totals) -> f64
+    requires { ⌜ (1 ≤ n) × (n ≤ maxLayers) ⌝ }
+    ensures { λ r. ⌜ r ≡ cond (wideClose (t .drawn) zero-f) (getD (now (temps .entry)) (n - 1) nan) (t .weighted ⊘ t .drawn) ⌝ }
+{
+    if numeric::close::is_wide_close(t.drawn, 0.0) {
+        return temps[n - 1];
+    }
+    t.weighted / t.drawn
+}
+
+fn are_both_finite(x: f64, y: f64) -> bool
+    ensures { λ r. ⌜ r ≡ (finite x && finite y) ⌝ }
+{
+    if !numeric::compare::is_finite(x) {
+        return false;
+    }
+    numeric::compare::is_finite(y)
+}
+
+// What a step's work answers: 0 with what was drawn and the two figures of its end, or the number of 01's refusal.
+pub struct WorkAnswer {
+    pub number: u8,
+    pub totals: Totals,
+    pub average: f64,
+    pub recoverable: f64,
+}
+
+// Nothing but the number is looked at.
+fn refused(number: u8) -> WorkAnswer
+    ensures { λ r. ⌜ r .number ≡ number ⌝ }
+{
+    WorkAnswer {
+        number,
+        totals: no_totals(),
+        average: 0.0,
+        recoverable: 0.0,
+    }
+}
+
+// A step's work, from checks to end, on what both calls lend: accepted, the layers, the heaters' flags `on` and the report's lines are what the step leaves;
+// refused, they are of no use.
+pub fn work_step(
+    c: Cylinder,
+    n: usize,
+    heaters: &[f64; THREE_EACH],
+    thermostats: &[bool; MAX_HEATERS],
+    feed: f64,
+    events: usize,
+    volumes: &[f64; MAX_EVENTS],
+    entries: usize,
+    present: &[bool; TWO_EACH],
+    points: &[f64; TWO_EACH],
+    temps: &mut [f64; MAX_LAYERS],
+    on: &mut [bool; MAX_HEATERS],
+    figures: &mut [f64; THREE_EACH],
+    flags: &mut [bool; MAX_HEATERS],
+    rounds: &mut [usize; MAX_HEATERS],
+) -> WorkAnswer
+    requires { ⌜ ZeroLines (now figures) (now flags) (now rounds) ⌝ }
+    ensures { λ r. ⌜ StepWorked (fixedWith c n (now (heaters .entry)) (now (thermostats .entry))) (record { temps = now (temps .entry); flags = now (on .entry) }) (stepWith feed events (now (volumes .entry)) entries (now (present .entry)) (now (points .entry))) r (now (temps .exit)) (now (on .exit)) (linesIn (now (figures .exit)) (now (flags .exit)) (now (rounds .exit))) × (r .number ≡ 0 → HoldsLines (now (figures .exit)) (now (flags .exit)) (now (rounds .exit))) ⌝ }
+{
+    let k = crate::refusals::lent_refusal(
+        c,
+        n,
+        temps,
+        heaters,
+        thermostats,
+        feed,
+        events,
+        volumes,
+        entries,
+        present,
+        points,
+    );
+    if k != 0 {
+        return refused(k);
+    }
+    let vol = cylinder::layer_volumes(c);
+    let d = draw_off::event::draw_events(c, &vol, feed, events, volumes, temps, no_totals());
+    if d.number != 0 {
+        return refused(d.number);
+    }
+    let totals = d.totals;
+    let average = average_of(c.layers, temps, totals);
+    let mut charged = [0.0; MAX_LAYERS];
+    let h = crate::turns::heat_turns(
+        c,
+        &vol,
+        n,
+        heaters,
+        thermostats,
+        present,
+        points,
+        temps,
+        &mut charged,
+        on,
+        figures,
+        flags,
+        rounds,
+    );
+    if h.number != 0 {
+        return refused(h.number);
+    }
+    let recoverable = h.losses * 0.75;
+    if !are_both_finite(average, recoverable) {
+        return refused(10);
+    }
+    WorkAnswer {
+        number: 0,
+        totals,
+        average,
+        recoverable,
+    }
+}

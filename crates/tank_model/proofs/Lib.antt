@@ -1,0 +1,9 @@
+-- The laws of a step's work, and the proof of what demand 3 says of a list's history.
+pub mod Latch
+pub mod Members
+pub mod Order
+pub mod Steps
+pub mod TurnFacts
+pub mod Works
+pub mod Course
+pub mod HistoryDemand

@@ -1,0 +1,68 @@
+-- States what make fixes, what a step changes, and how what is fixed is read from make's arguments (01, Tank).
+use Prim.Native.Nat.{ℕ}
+use mathlib.Core.Bool.{Bool, false, cond}
+use mathlib.Core.List.{List}
+use lib.ListN.{getD}
+use lib.Ieee.{Float, nan}
+use Rattle.numeric.specs.Tabulate.{tabulate}
+use Rattle.numeric.specs.Whole.{layerOf}
+use Rattle.cylinder.specs.declared.Cylinder.{Cylinder}
+use Rattle.heating.specs.declared.turn.Immersion.{Immersion}
+use Rattle.tank_model.specs.declared.Heater.{Heater}
+use Rattle.tank_model.specs.declared.TankDesign.{TankDesign}
+
+-- a heater's rated power, its position and its thermostat's
+pub record Placed : Type 0 where
+  pub rated : Float
+  pub position : Float
+  pub thermostat : Float
+
+-- a thermostat without a position sits with its heater
+abbrev pub placed : Heater → Placed
+placed x = record { rated = x .rated; position = x .position; thermostat = cond (x .«has_thermostat») (x .thermostat) (x .position) }
+
+abbrev pub noHeater : Heater
+noHeater = record { rated = nan; position = nan; «has_thermostat» = false; thermostat = nan }
+
+abbrev pub notPlaced : Placed
+notPlaced = record { rated = nan; position = nan; thermostat = nan }
+
+-- the first n heaters, as given
+unfoldable pub placedHeaters : ℕ → List Heater → List Placed
+placedHeaters n fitted = tabulate (λ (h : ℕ). placed (getD fitted h noHeater)) n 0
+
+-- what make fixes
+pub record Fixed : Type 0 where
+  pub cylinder : Cylinder
+  pub heaters : List Placed
+
+abbrev pub heaterOf : Fixed → ℕ → Placed
+heaterOf f h = getD (f .heaters) h notPlaced
+
+-- a heater with the layers that a step finds for it: position × layers cut to a whole number
+abbrev pub immersionOf : Fixed → ℕ → Immersion
+immersionOf f h = record {
+  rated = heaterOf f h .rated;
+  layer = layerOf (heaterOf f h .position) (f .cylinder .layers);
+  thermostat = layerOf (heaterOf f h .thermostat) (f .cylinder .layers);
+}
+
+-- what a step changes: the layers, in the first of these places, and the flags
+pub record State : Type 0 where
+  pub temps : List Float
+  pub flags : List Bool
+
+-- make's own numbers
+abbrev pub fixedOf : TankDesign → Fixed
+fixedOf m = record {
+  cylinder = record {
+    layers = m .layers;
+    volume = m .volume;
+    standby = m .standby;
+    rho = m .rho;
+    cp = m .cp;
+    ambient = m .ambient;
+    timestep = m .timestep;
+  };
+  heaters = placedHeaters (m .heaters) (m .fitted);
+}
