@@ -1,7 +1,7 @@
 -- Proves that the turns told are those of the step's work (01, Step): none where the step is refused before its first turn, else all in the order of work.
 use mathlib.Core.Path.{_≡_, refl, sym, ap, _∙_}
 use mathlib.Core.List.{List, [], _∷_}
-use Prim.Native.Nat.{ℕ, zero, suc, _<_}
+use Prim.Native.Nat.{ℕ, zero, suc, _≤_, _<_}
 use native.Mathlib.Omega.{arith}
 use mathlib.Core.Bool.{cond}
 use borrow.Author.Tests.{ne-eqb}
@@ -12,9 +12,10 @@ use Rattle.numeric.specs.Double.{zero-f}
 use Rattle.mixing.specs.Limits.{maxLayers}
 use Rattle.cylinder.specs.declared.Cylinder.{Cylinder}
 use Rattle.draw_off.specs.declared.event.EventAnswer.{EventAnswer}
-use Rattle.draw_off.specs.Lent.{drawingOf}
+use Rattle.draw_off.specs.Lent.{maxEvents, drawingOf}
 use Rattle.draw_off.specs.Event.{Event, Drawing, drawAll}
 use Rattle.heating.specs.Turn.{turnNumber}
+use Rattle.working_order.specs.Order.{maxHeaters}
 use Rattle.tank_model.specs.declared.Heater.{Heater}
 use Rattle.storage_tank.specs.declared.StorageTank.{StorageTank}
 use Rattle.tank_model.specs.declared.Step.{Step}
@@ -26,6 +27,7 @@ use Rattle.tank_model.specs.Members.{All}
 use Rattle.tank_model.specs.Work.{Progress, Turn, End, refused, done, resume, andThen, endBy, withDraw, event, events, wantedVolumes, withAverage, turnOf, afterTurn, heaterTurn, turns, allTurns, opening, begin, work}
 use Rattle.step_work.specs.Lent.{noTotals}
 use Rattle.tank_model.proofs.Order.{many-placed, placed-at, order-below}
+use Rattle.step_work.proofs.FirstRefusal.{step-counts}
 use Rattle.step_work.proofs.StepWorked.{events-end}
 use Rattle.job_history.specs.declared.TurnFact.{TurnFact}
 use Rattle.job_history.specs.Facts.{factOf, factsOf, stepTurns}
@@ -65,6 +67,10 @@ events-turns c feed (v ∷ vs) s = go _ _ (λ s'. events-turns c feed vs s')
 module _ (t : StorageTank) (a : Step) where
   abbrev c : Cylinder
   c = fixedIn t .cylinder
+
+  -- what a step that passes its checks says of the counts
+  pub tank-counts : stepRefusal (fixedIn t) (stateIn t) a ≡ 0 → (1 ≤ t .layers) × (t .layers ≤ maxLayers) × (t .heaters ≤ maxHeaters) × (a .events ≤ maxEvents)
+  tank-counts = step-counts c (t .heaters) (t .fitted) (stateIn t) a
 
   pub refused-none : (stepRefusal (fixedIn t) (stateIn t) a ≡ 0 → ⊥) → stepTurns t a ≡ []
   unfolding stepTurns work

@@ -146,10 +146,10 @@ fn tell_turns(
 pub fn step_turns(t: StorageTank, a: Step) -> Turns
     ensures { λ r. ⌜ (r ≡ turnsOf (stepTurns t a)) × (r .count ≤ maxHeaters) ⌝ }
 {
-    if step_work::refusals::step_refusal(t, a) != 0 {
+    if crate::refusal::step_refusal(t, a) != 0 {
         return no_turns();
     }
-    let c = step_work::refusals::cylinder_in(t);
+    let c = storage_tank::hot_water::cylinder_in(t);
     let vol = cylinder::layer_volumes(c);
     let mut temps = t.temps;
     let none = step_work::work::no_totals();

@@ -4,11 +4,10 @@ use mathlib.Core.List.{List, []}
 use Prim.Native.Nat.{_≤_}
 use native.Mathlib.Omega.{arith}
 use Rattle.working_order.specs.Order.{maxHeaters}
-use Rattle.step_work.proofs.StepWorked.{step-counts}
 use Rattle.job_history.specs.declared.TurnFact.{TurnFact}
 use Rattle.job_history.specs.declared.Turns.{Turns}
 use Rattle.job_history.specs.Facts.{turnsOf}
-use Rattle.job_history.proofs.StepTold.{refused-none, drawn-none, told-all}
+use Rattle.job_history.proofs.StepTold.{tank-counts, refused-none, drawn-none, told-all}
 use borrow.Author.Needs.{needs}
 use Rattle.job_history.proofs.facts.step_turns.Statement.{statement}
 use Rattle.job_history.proofs.facts.step_turns.Tie as tie
@@ -32,14 +31,14 @@ cylinder-in-requires : tie.Need-cylinder-in-requires
 cylinder-in-requires c κs = search needs
 
 layer-volumes-requires : tie.Need-layer-volumes-requires
-layer-volumes-requires c κs = rw (c .cylinder-in .ensures) (step-counts (c .before .before .before .args .t) (c .before .before .before .args .t2) (sym (c .before .before .step-refusal .ensures) ∙ c .before .if1 .left) .1)
+layer-volumes-requires c κs = rw (c .cylinder-in .ensures) (tank-counts (c .before .before .before .args .t) (c .before .before .before .args .t2) (sym (c .before .before .step-refusal .ensures) ∙ c .before .if1 .left) .1)
 
 no-totals-requires : tie.Need-no-totals-requires
 no-totals-requires c κs = search needs
 
 draw-events-requires : tie.Need-draw-events-requires
 draw-events-requires c κs =
-    let n = step-counts (c .before .before .before .before .before .before .before .before .before .before .args .t) (c .before .before .before .before .before .before .before .before .before .before .args .t2) (sym (c .before .before .before .before .before .before .before .before .before .step-refusal .ensures) ∙ c .before .before .before .before .before .before .before .before .if1 .left) in
+    let n = tank-counts (c .before .before .before .before .before .before .before .before .before .before .args .t) (c .before .before .before .before .before .before .before .before .before .before .args .t2) (sym (c .before .before .before .before .before .before .before .before .before .step-refusal .ensures) ∙ c .before .before .before .before .before .before .before .before .if1 .left) in
     let c' = c .before .before .before .before .before .before .before .cylinder-in .ensures in
     (rw c' (n .0), rw c' (n .1), c .before .before .before .before .before .before .layer-volumes .ensures, n .3)
 
@@ -55,7 +54,7 @@ returns-2 c =
 
 tell-turns-requires : tie.Need-tell-turns-requires
 tell-turns-requires c κs =
-    let n = step-counts (c .before .before .before .before .before .before .before .before .before .before .before .before .before .before .before .before .before .before .before .args .t) (c .before .before .before .before .before .before .before .before .before .before .before .before .before .before .before .before .before .before .before .args .t2) (sym (c .before .before .before .before .before .before .before .before .before .before .before .before .before .before .before .before .before .before .step-refusal .ensures) ∙ c .before .before .before .before .before .before .before .before .before .before .before .before .before .before .before .before .before .if1 .left) in
+    let n = tank-counts (c .before .before .before .before .before .before .before .before .before .before .before .before .before .before .before .before .before .before .before .args .t) (c .before .before .before .before .before .before .before .before .before .before .before .before .before .before .before .before .before .before .before .args .t2) (sym (c .before .before .before .before .before .before .before .before .before .before .before .before .before .before .before .before .before .before .step-refusal .ensures) ∙ c .before .before .before .before .before .before .before .before .before .before .before .before .before .before .before .before .before .if1 .left) in
     let c' = c .before .before .before .before .before .before .before .before .before .before .before .before .before .before .before .before .cylinder-in .ensures in
     (rw c' (n .0), rw c' (n .1), n .2, c .before .before .before .before .before .before .before .before .before .before .before .before .before .before .before .layer-volumes .ensures)
 

@@ -1,6 +1,8 @@
 -- `calls::huszmago_step` meets its contract (01, The four calls): a refused step writes nothing, an accepted one what it changes, and the arrays hold its answer.
 use mathlib.Core.Path.{refl, ap}
 use Rattle.storage_tank.specs.declared.Stepped.{Stepped}
+use Rattle.storage_tank.proofs.Answers.{step-refuses, step-accepts}
+use Rattle.shim.specs.Tanks.{tankIn}
 use Rattle.shim.specs.Reports.{reportIn}
 use Rattle.shim.specs.Steps.{stepIn}
 use Rattle.shim.proofs.Kept.{refused-answered, worked-answered}
@@ -49,7 +51,7 @@ returns c =
     let i = c .before .before .before .before .before .before .before .before .before .before .before .before .before .before .before .before .before .before .before .before .before .before .before .before .before .before .before .before .before .before .before .args in
     let l = c .before .before .before .before .before .before .before .before .before .before .before .before .before .before .before .before .before .before .before .before .before .before .lengths-told .ensures in
     let report = reportIn (i .totals .now) (i .figures .now) (i .line-flags .now) (i .rounds .now) in
-    let w = c .before .before .work-step .ensures .0 .refuses report (c .if1 .taken) in
+    let w = step-refuses (tankIn (i .counts .now) (i .numbers .now) (i .temps .now) (i .heaters .now) (i .thermostats .now) (i .flags .now)) report (stepIn (i .feed) (i .asked .now) (i .volumes .now) (i .present .now) (i .points .now)) (c .before .before .work-step .result) _ _ _ (c .before .before .work-step .ensures .0) (c .if1 .taken) in
     refused-answered (i .counts .now) (i .numbers .now) (i .temps .now) (i .heaters .now) (i .thermostats .now) (i .flags .now) (l .0) (l .1) (l .2) (l .3) (i .totals .now) (i .figures .now) (i .line-flags .now) (i .rounds .now) (l .4) (l .5) (l .6) (l .7) (stepIn (i .feed) (i .asked .now) (i .volumes .now) (i .present .now) (i .points .now)) _ (ap (λ (x : Stepped). x .number) w) (c .if1 .taken)
 
 totals-of-requires : tie.Need-totals-of-requires
@@ -61,7 +63,7 @@ returns-2 c =
     let l = c .before .before .before .before .before .before .before .before .before .before .before .before .before .before .before .before .before .before .before .before .before .before .before .lengths-told .ensures in
     let report = reportIn (i .totals .now) (i .figures .now) (i .line-flags .now) (i .rounds .now) in
     let w = c .before .before .before .work-step .ensures in
-    worked-answered (i .counts .now) (i .numbers .now) (i .temps .now) (i .heaters .now) (i .thermostats .now) (i .flags .now) (l .0) (l .1) (l .2) (l .3) (i .totals .now) (i .figures .now) (i .line-flags .now) (i .rounds .now) (l .4) (l .5) (l .6) (l .7) (stepIn (i .feed) (i .asked .now) (i .volumes .now) (i .present .now) (i .points .now)) (c .before .before .before .work-step .result) _ _ _ _ _ _ (w .0 .accepts report (c .before .if1 .left)) (c .totals-of .ensures) (w .1 (c .before .if1 .left))
+    worked-answered (i .counts .now) (i .numbers .now) (i .temps .now) (i .heaters .now) (i .thermostats .now) (i .flags .now) (l .0) (l .1) (l .2) (l .3) (i .totals .now) (i .figures .now) (i .line-flags .now) (i .rounds .now) (l .4) (l .5) (l .6) (l .7) (stepIn (i .feed) (i .asked .now) (i .volumes .now) (i .present .now) (i .points .now)) (c .before .before .before .work-step .result) _ _ _ _ _ _ (step-accepts (tankIn (i .counts .now) (i .numbers .now) (i .temps .now) (i .heaters .now) (i .thermostats .now) (i .flags .now)) report (stepIn (i .feed) (i .asked .now) (i .volumes .now) (i .present .now) (i .points .now)) (c .before .before .before .work-step .result) _ _ _ (w .0) (c .before .if1 .left)) (c .totals-of .ensures) (w .1 (c .before .if1 .left))
 
 pub huszmago-step-spec : {M : Type 1} → statement M
 huszmago-step-spec =

@@ -1,0 +1,31 @@
+// What a step is refused for before it works, of a tank and a step by value; 0 for nothing.
+ghost use mathlib.Core.Path.{_≡_};
+ghost use Rattle.tank_model.specs.Checks.{stepRefusal};
+ghost use Rattle.storage_tank.specs.Tank.{fixedIn, stateIn};
+use storage_tank::StorageTank;
+use tank_model::Step;
+
+pub fn step_refusal(t: StorageTank, a: Step) -> u8
+    ensures { λ r. ⌜ r ≡ stepRefusal (fixedIn t) (stateIn t) a ⌝ }
+{
+    let c = storage_tank::hot_water::cylinder_in(t);
+    let fitted = t.fitted;
+    let heaters = step_work::arrays::heaters_of(fitted);
+    let thermostats = step_work::arrays::thermostats_of(fitted);
+    let settings = a.settings;
+    let present = step_work::arrays::present_of(settings);
+    let points = step_work::arrays::set_points_of(settings);
+    step_work::refusals::lent_refusal(
+        c,
+        t.heaters,
+        &t.temps,
+        &heaters,
+        &thermostats,
+        a.feed,
+        a.events,
+        &a.volumes,
+        a.entries,
+        &present,
+        &points,
+    )
+}
