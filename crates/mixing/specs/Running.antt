@@ -26,22 +26,24 @@ volumeSum vol bottom end = turns (sumTurn (λ (k : ℕ). getD vol k nan ⊛ one-
 abbrev pub heatSum : List Float → Float → ℕ → ℕ → Accumulator
 heatSum vol x bottom end = turns (sumTurn (λ (k : ℕ). getD vol k nan ⊛ x)) (end - bottom) bottom nothing-added
 
--- a guess at the total of a layer's own heat and the heat p of each of more + 1 layers. Nothing rests on it: it is used where the total is the same.
--- h is a multiple of p, a and b are multiples that lose nothing: b ⊖ (h ⊖ a) is what h has lost
-abbrev pub withLoss : Float → Float → Float → Float → Float
-withLoss h a b x = h ⊕ (b ⊖ (h ⊖ a) ⊕ x)
+-- a guess at the total of a layer's own heat and the heat p, volume v × temp, of each of more + 1 layers. Nothing rests on it: it is used where the total is the same.
+abbrev two-f : Float
+two-f = dbl 0x4000_0000_0000_0000
 
-unfoldable pub guessedTotal : ℕ → Float → Float → Float
-guessedTotal more p own =
+abbrev eight-f : Float
+eight-f = dbl 0x4020_0000_0000_0000
+
+unfoldable pub guessedTotal : ℕ → Float → Float → Float → Float → Float
+guessedTotal more v temp p own =
     cond (eqb more 0) (p ⊕ own)
-    (cond (eqb more 1) (dbl 0x4000_0000_0000_0000 ⊛ p ⊕ own)
-    (cond (eqb more 2) (four-f ⊛ p ⊕ (own ⊖ p))
-    (cond (eqb more 3) (four-f ⊛ p ⊕ own)
-    (cond (eqb more 4) (withLoss (dbl 0x4018_0000_0000_0000 ⊛ p) (four-f ⊛ p) (dbl 0x4000_0000_0000_0000 ⊛ p) (own ⊖ p))
-    (cond (eqb more 5) (withLoss (dbl 0x401c_0000_0000_0000 ⊛ p) (dbl 0x4020_0000_0000_0000 ⊛ p) (neg p) (own ⊖ p))
-    (cond (eqb more 6) (dbl 0x4020_0000_0000_0000 ⊛ p ⊕ (own ⊖ p))
-    (cond (eqb more 7) (dbl 0x4020_0000_0000_0000 ⊛ p ⊕ own)
-    (cond (eqb more 8) (withLoss (dbl 0x4024_0000_0000_0000 ⊛ p) (dbl 0x4020_0000_0000_0000 ⊛ p) (dbl 0x4000_0000_0000_0000 ⊛ p) (own ⊖ p)) zero-f))))))))
+    (cond (eqb more 1) (two-f ⊛ v ⊛ temp ⊕ own)
+    (cond (eqb more 2) (four-f ⊛ v ⊛ temp ⊕ (own ⊖ p))
+    (cond (eqb more 3) (four-f ⊛ v ⊛ temp ⊕ own)
+    (cond (eqb more 4) (four-f ⊛ v ⊛ temp ⊕ (own ⊕ p))
+    (cond (eqb more 5) (eight-f ⊛ v ⊛ temp ⊕ (own ⊖ two-f ⊛ v ⊛ temp))
+    (cond (eqb more 6) (eight-f ⊛ v ⊛ temp ⊕ (own ⊖ p))
+    (cond (eqb more 7) (eight-f ⊛ v ⊛ temp ⊕ own)
+    (cond (eqb more 8) (eight-f ⊛ v ⊛ temp ⊕ (own ⊕ p)) zero-f))))))))
 
 -- volume × temperature is finite in each of n layers
 abbrev pub HeatFinite : ℕ → List Float → List Float → Type 0

@@ -15,7 +15,7 @@ ghost use Rattle.numeric.specs.Sum2.{nothing-added, accumulate, sumTurn, total}
 ghost use Rattle.mixing.specs.Limits.{maxLayers};
 ghost use Rattle.mixing.specs.Round.{oneRound};
 ghost use Rattle.mixing.specs.Rearrange.{isSorted};
-ghost use Rattle.mixing.specs.Running.{withLoss, guessedTotal, heatSum, SaysJoins, joinedGroup, Started, Ended, Follows};
+ghost use Rattle.mixing.specs.Running.{guessedTotal, heatSum, SaysJoins, joinedGroup, Started, Ended, Follows};
 use crate::limits::MAX_LAYERS;
 use numeric::sum2::Accumulator;
 
@@ -239,44 +239,37 @@ fn join_even_plain(
     )
 }
 
-// h and x, with what h, the sum of a and b, has lost.
-fn with_loss(h: f64, a: f64, b: f64, x: f64) -> f64
-    ensures { λ r. ⌜ r ≡ withLoss h a b x ⌝ }
-{
-    h + ((b - (h - a)) + x)
-}
-
-// The total of a layer's own heat and the heat p of each of more + 1 layers, in few roundings: what Sum2 gives, where a multiple of p and the rest are exact. It is a
-// guess, and 0 where there is none; it does not wait for a sum of the layers.
-fn guess_total(more: usize, p: f64, own: f64) -> f64
-    ensures { λ r. ⌜ r ≡ guessedTotal more p own ⌝ }
+// The total of a layer's own heat and the heat p of each of more + 1 layers, in few roundings: nearly always what Sum2 gives. p is v × temp; its multiples lose nothing
+// and are worked from 2 v, 4 v and 8 v, so that they do not wait for p. It is a guess, and 0 where there is none; it does not wait for a sum of the layers.
+fn guess_total(more: usize, v: f64, temp: f64, p: f64, own: f64) -> f64
+    ensures { λ r. ⌜ r ≡ guessedTotal more v temp p own ⌝ }
 {
     if more == 0 {
         return p + own;
     }
     if more == 1 {
-        return 2.0 * p + own;
+        return (2.0 * v) * temp + own;
     }
     if more == 2 {
-        return 4.0 * p + (own - p);
+        return (4.0 * v) * temp + (own - p);
     }
     if more == 3 {
-        return 4.0 * p + own;
+        return (4.0 * v) * temp + own;
     }
     if more == 4 {
-        return with_loss(6.0 * p, 4.0 * p, 2.0 * p, own - p);
+        return (4.0 * v) * temp + (own + p);
     }
     if more == 5 {
-        return with_loss(7.0 * p, 8.0 * p, -p, own - p);
+        return (8.0 * v) * temp + (own - (2.0 * v) * temp);
     }
     if more == 6 {
-        return 8.0 * p + (own - p);
+        return (8.0 * v) * temp + (own - p);
     }
     if more == 7 {
-        return 8.0 * p + own;
+        return (8.0 * v) * temp + own;
     }
     if more == 8 {
-        return with_loss(10.0 * p, 8.0 * p, 2.0 * p, own - p);
+        return (8.0 * v) * temp + (own + p);
     }
     0.0
 }
@@ -306,7 +299,7 @@ fn join(r: RunningGroup, vol: &[f64; MAX_LAYERS], i: usize, v: f64, next: f64) -
             if own <= r.heat.s {
                 let product = v * r.temp;
                 if own < product {
-                    let guess = guess_total(i - r.bottom, product, own);
+                    let guess = guess_total(i - r.bottom, v, r.temp, product, own);
                     if is_total(heat, guess) {
                         return join_even_plain(r, vol, i, v, next, heat, volume, guess);
                     }

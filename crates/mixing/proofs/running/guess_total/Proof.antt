@@ -21,19 +21,13 @@ returns-4 : tie.Need-returns-4
 unfolding guessedTotal
 returns-4 c = rw (c .if4 .taken)
 
-with-loss-requires : tie.Need-with-loss-requires
-with-loss-requires c κs = search needs
-
 returns-5 : tie.Need-returns-5
 unfolding guessedTotal
-returns-5 c = rw (c .before .if5 .taken) (c .with-loss .ensures)
-
-with-loss-requires-2 : tie.Need-with-loss-requires-2
-with-loss-requires-2 c κs = search needs
+returns-5 c = rw (c .if5 .taken)
 
 returns-6 : tie.Need-returns-6
 unfolding guessedTotal
-returns-6 c = rw (c .before .if6 .taken) (c .with-loss2 .ensures)
+returns-6 c = rw (c .if6 .taken)
 
 returns-7 : tie.Need-returns-7
 unfolding guessedTotal
@@ -43,12 +37,9 @@ returns-8 : tie.Need-returns-8
 unfolding guessedTotal
 returns-8 c = rw (c .if8 .taken)
 
-with-loss-requires-3 : tie.Need-with-loss-requires-3
-with-loss-requires-3 c κs = search needs
-
 returns-9 : tie.Need-returns-9
 unfolding guessedTotal
-returns-9 c = rw (c .before .if9 .taken) (c .with-loss3 .ensures)
+returns-9 c = rw (c .if9 .taken)
 
 returns-10 : tie.Need-returns-10
 unfolding guessedTotal
@@ -62,12 +53,9 @@ guess-total-spec =
     returns-2
     returns-3
     returns-4
-    with-loss-requires
     returns-5
-    with-loss-requires-2
     returns-6
     returns-7
     returns-8
-    with-loss-requires-3
     returns-9
     returns-10)
