@@ -4,7 +4,6 @@ use Prim.Native.Nat.{ℕ, zero, suc, _-_, _<_}
 use native.Mathlib.Omega.{arith}
 use native.Mathlib.Numerals.{sub-one}
 use mathlib.Core.Path.{_≡_, refl, sym, _∙_}
-use mathlib.Core.Logic.{inl, inr}
 use mathlib.Core.Bool.{Bool, true, false, cond, _||_, true≢false}
 use mathlib.Core.List.{List, [], _∷_}
 use lib.ListN.{length, getD, set}
@@ -12,7 +11,6 @@ use lib.Seq.{getD-set-same, getD-set-other}
 use lib.Ieee.{Float, nan, inf, fin, lt, eq, ofBits}
 use lib.Ieee.Scale.{finite}
 use Rattle.numeric.specs.Double.{_⊕_, _⊖_, _⊛_, _⊘_, zero-f}
-use Rattle.numeric.specs.Zeros.{signed-zero, SameValue}
 use Rattle.numeric.specs.Compare.{minOf2}
 use Rattle.numeric.specs.Close.{wideClose, close}
 use Rattle.numeric.proofs.Difference.{minus-self}

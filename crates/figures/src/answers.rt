@@ -1,10 +1,10 @@
 // Makes and steps tanks, and prints each answer with all its numbers: the four totals, the layers, and each heater's line, as given.
 use crate::print;
-use tank_model::HeaterLine;
 use storage_tank::Report;
-use tank_model::Step;
 use storage_tank::Stepped;
 use storage_tank::StorageTank;
+use tank_model::HeaterLine;
+use tank_model::Step;
 use tank_model::TankDesign;
 use working_order::MAX_HEATERS;
 

@@ -29,19 +29,19 @@ use Rattle.heating.specs.Heat as Heat
 use Rattle.heating.specs.Losses as Losses
 use Rattle.heating.specs.Supply as Supply
 use Rattle.heating.specs.Turn as Turn
+use Rattle.working_order.specs.Order as Sorting
 use Rattle.tank_model.specs.declared.Heater.{Heater}
 use Rattle.tank_model.specs.declared.TankDesign.{TankDesign}
 use Rattle.tank_model.specs.declared.Setting.{Setting}
 use Rattle.tank_model.specs.declared.HeaterLine.{HeaterLine}
-use Rattle.storage_tank.specs.declared.Report.{Report}
-use Rattle.storage_tank.specs.declared.Stepped.{Stepped}
 use Rattle.tank_model.specs.Fixed as Fixed
-use Rattle.working_order.specs.Order as Sorting
 use Rattle.tank_model.specs.Order as Order
 use Rattle.tank_model.specs.Checks as Checks
 use Rattle.tank_model.specs.Work as Work
 use Rattle.tank_model.specs.History as History
 use Rattle.tank_model.specs.History.{Call, step}
+use Rattle.storage_tank.specs.declared.Report.{Report}
+use Rattle.storage_tank.specs.declared.Stepped.{Stepped}
 use Rattle.storage_tank.specs.Calls as Calls
 use Rattle.storage_tank.specs.Calls.{made, answers}
 

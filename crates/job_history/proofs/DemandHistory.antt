@@ -3,17 +3,17 @@ use mathlib.Core.Path.{_≡_, refl, ap, _∙_}
 use mathlib.Core.List.{List, [], _∷_}
 use Prim.Native.Nat.{_≤_}
 use Rattle.working_order.specs.Order.{maxHeaters}
-use Rattle.storage_tank.specs.declared.StorageTank.{StorageTank}
 use Rattle.tank_model.specs.declared.TankDesign.{TankDesign}
 use Rattle.tank_model.specs.declared.Step.{Step}
-use Rattle.storage_tank.specs.declared.Report.{Report}
 use Rattle.tank_model.specs.Fixed.{Fixed, State, fixedOf}
-use Rattle.storage_tank.specs.Tank.{fixedIn, stateIn}
 use Rattle.tank_model.specs.Work.{End, refused, done, Work, work}
-use Rattle.storage_tank.specs.Calls.{answer, madeOf, made, stepped}
 use Rattle.tank_model.specs.History.{designRefusal, start, carry, workOf, run, history}
-use Rattle.storage_tank.specs.Demand.{tankOf}
 use Rattle.tank_model.proofs.Works.{made-heaters}
+use Rattle.storage_tank.specs.declared.StorageTank.{StorageTank}
+use Rattle.storage_tank.specs.declared.Report.{Report}
+use Rattle.storage_tank.specs.Tank.{fixedIn, stateIn}
+use Rattle.storage_tank.specs.Calls.{answer, madeOf, made, stepped}
+use Rattle.storage_tank.specs.Demand.{tankOf}
 use Rattle.storage_tank.proofs.Demand.{fixed-is}
 use Rattle.job_history.specs.Facts.{stepTurns, toldFrom, workFacts, calls}
 

@@ -17,18 +17,18 @@ use Rattle.draw_off.specs.Event.{Event, Drawing, drawAll}
 use Rattle.heating.specs.Turn.{turnNumber}
 use Rattle.working_order.specs.Order.{maxHeaters}
 use Rattle.tank_model.specs.declared.Heater.{Heater}
-use Rattle.storage_tank.specs.declared.StorageTank.{StorageTank}
 use Rattle.tank_model.specs.declared.Step.{Step}
 use Rattle.tank_model.specs.Fixed.{Fixed, placedHeaters}
-use Rattle.storage_tank.specs.Tank.{fixedIn, stateIn}
 use Rattle.tank_model.specs.Order.{workingOrder}
 use Rattle.tank_model.specs.Checks.{stepRefusal}
 use Rattle.tank_model.specs.Members.{All}
 use Rattle.tank_model.specs.Work.{Progress, Turn, End, refused, done, resume, andThen, endBy, withDraw, event, events, wantedVolumes, withAverage, turnOf, afterTurn, heaterTurn, turns, allTurns, opening, begin, work}
-use Rattle.step_work.specs.Lent.{noTotals}
 use Rattle.tank_model.proofs.Order.{many-placed, placed-at, order-below}
+use Rattle.step_work.specs.Lent.{noTotals}
 use Rattle.step_work.proofs.FirstRefusal.{step-counts}
 use Rattle.step_work.proofs.StepWorked.{events-end}
+use Rattle.storage_tank.specs.declared.StorageTank.{StorageTank}
+use Rattle.storage_tank.specs.Tank.{fixedIn, stateIn}
 use Rattle.job_history.specs.declared.TurnFact.{TurnFact}
 use Rattle.job_history.specs.Facts.{factOf, factsOf, stepTurns}
 use Rattle.job_history.specs.Lent.{turnFacts}

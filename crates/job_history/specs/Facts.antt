@@ -6,13 +6,13 @@ use Rattle.numeric.specs.Double.{zero-f}
 use Rattle.numeric.specs.Copy.{copied}
 use Rattle.heating.specs.declared.SetPoints.the-variants.{Neither}
 use Rattle.working_order.specs.Order.{maxHeaters}
-use Rattle.storage_tank.specs.declared.StorageTank.{StorageTank}
 use Rattle.tank_model.specs.declared.Step.{Step}
+use Rattle.tank_model.specs.Work.{Turn, Work, work}
+use Rattle.tank_model.specs.History.{Call, step}
+use Rattle.storage_tank.specs.declared.StorageTank.{StorageTank}
 use Rattle.storage_tank.specs.declared.Report.{Report}
 use Rattle.storage_tank.specs.Tank.{fixedIn, stateIn}
-use Rattle.tank_model.specs.Work.{Turn, Work, work}
 use Rattle.storage_tank.specs.Calls.{stepped}
-use Rattle.tank_model.specs.History.{Call, step}
 use Rattle.job_history.specs.declared.TurnFact.{TurnFact}
 use Rattle.job_history.specs.declared.Turns.{Turns}
 

@@ -2,9 +2,9 @@
 use Prim.Native.Nat.{ℕ}
 use mathlib.Core.List.{List}
 use lib.ListN.{length}
+use Rattle.tank_model.specs.declared.Step.{Step}
 use Rattle.storage_tank.specs.declared.StorageTank.{StorageTank}
 use Rattle.storage_tank.specs.declared.Report.{Report}
-use Rattle.tank_model.specs.declared.Step.{Step}
 use Rattle.storage_tank.specs.Calls.{stepped}
 use Rattle.job_reader.specs.declared.Record.{Record}
 use Rattle.job_reader.specs.declared.Record.the-variants.{Tank, Heater as HeaterCase, Step as StepCase, Refused}

@@ -17,10 +17,10 @@ use crate::Turns;
 use cylinder::Cylinder;
 use heating::SetPoints;
 use mixing::limits::MAX_LAYERS;
+use storage_tank::StorageTank;
 use tank_model::Heater;
 use tank_model::Setting;
 use tank_model::Step;
-use storage_tank::StorageTank;
 use working_order::MAX_HEATERS;
 
 // A turn as it is told, and the number of 01's refusal or 0.

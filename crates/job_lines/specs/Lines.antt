@@ -9,14 +9,14 @@ use lib.Dec.{leb, eqb}
 use lib.ListN.{getD}
 use lib.Ieee.{Float, nan}
 use Rattle.mixing.specs.Limits.{maxLayers}
+use Rattle.working_order.specs.Order.{maxHeaters}
 use Rattle.tank_model.specs.declared.HeaterLine.{HeaterLine}
+use Rattle.tank_model.specs.Fixed.{placedHeaters}
+use Rattle.tank_model.specs.Order.{workingOrder}
 use Rattle.storage_tank.specs.declared.Report.{Report}
 use Rattle.storage_tank.specs.declared.StorageTank.{StorageTank}
 use Rattle.storage_tank.specs.declared.Stepped.{Stepped}
-use Rattle.tank_model.specs.Fixed.{placedHeaters}
 use Rattle.storage_tank.specs.Tank.{fixedIn}
-use Rattle.tank_model.specs.Order.{workingOrder}
-use Rattle.working_order.specs.Order.{maxHeaters}
 use Rattle.job_lines.specs.Text.{newline, numberText, doubleText}
 
 -- a count of places, of which there are no more than `most`

@@ -11,9 +11,9 @@ use crate::text::put_byte;
 use crate::text::put_double;
 use crate::text::put_number;
 use mixing::limits::MAX_LAYERS;
-use tank_model::HeaterLine;
 use storage_tank::Report;
 use storage_tank::Stepped;
+use tank_model::HeaterLine;
 use working_order::MAX_HEATERS;
 
 // There are no more places than `most`, whatever a count says.

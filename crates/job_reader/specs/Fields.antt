@@ -10,9 +10,9 @@ use Rattle.numeric.specs.Tabulate.{tabulate}
 use Rattle.draw_off.specs.Lent.{maxEvents}
 use Rattle.heating.specs.declared.SetPoints.{SetPoints}
 use Rattle.heating.specs.declared.SetPoints.the-variants.{Neither, Lower, Upper, Both}
+use Rattle.working_order.specs.Order.{maxHeaters}
 use Rattle.tank_model.specs.declared.Setting.{Setting}
 use Rattle.tank_model.specs.Checks.{noSetting}
-use Rattle.working_order.specs.Order.{maxHeaters}
 use Rattle.job_reader.specs.Bytes.{byteAt, doubleAt}
 
 abbrev pub noVolumes : List Float

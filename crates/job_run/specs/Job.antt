@@ -10,11 +10,11 @@ use Rattle.numeric.specs.Double.{zero-f}
 use Rattle.working_order.specs.Order.{maxHeaters}
 use Rattle.tank_model.specs.declared.Heater.{Heater}
 use Rattle.tank_model.specs.declared.TankDesign.{TankDesign}
-use Rattle.storage_tank.specs.declared.StorageTank.{StorageTank}
 use Rattle.tank_model.specs.declared.Setting.{Setting}
 use Rattle.tank_model.specs.declared.Step.{Step}
-use Rattle.storage_tank.specs.declared.Report.{Report}
 use Rattle.tank_model.specs.Work.{zeroLine}
+use Rattle.storage_tank.specs.declared.StorageTank.{StorageTank}
+use Rattle.storage_tank.specs.declared.Report.{Report}
 use Rattle.storage_tank.specs.Calls.{zeroHeater, zeroTank, made, stepped}
 use Rattle.job_reader.specs.declared.TankRecord.{TankRecord}
 use Rattle.job_reader.specs.declared.StepRecord.{StepRecord}

@@ -5,9 +5,9 @@ ghost use Rattle.job_run.specs.Job.{Turned, refusedTurn, madeTurn, heate
 use crate::Job;
 use crate::Printed;
 use job_reader::Record;
+use storage_tank::StorageTank;
 use tank_model::Heater;
 use tank_model::Step;
-use storage_tank::StorageTank;
 use tank_model::TankDesign;
 use working_order::MAX_HEATERS;
 

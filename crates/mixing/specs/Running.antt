@@ -6,7 +6,7 @@ use mathlib.Core.Path.{_≡_}
 use mathlib.Core.List.{List}
 use lib.Dec.{T, eqb}
 use lib.ListN.{getD}
-use lib.Ieee.{Float, nan, inf, binary64, fits, isNan, neg}
+use lib.Ieee.{Float, nan, inf, binary64, fits, isNan}
 use lib.Ieee.Scale.{finite}
 use Rattle.numeric.specs.Double.{_⊕_, _⊛_, one-f, dbl, _⊖_, zero-f, four-f}
 use Rattle.numeric.specs.Zeros.{SameValue}

@@ -8,7 +8,7 @@ use native.Mathlib.Nat.{add-zero, zero-add, mul-zero, sub-zero, zero-mul, mul-on
 use native.Mathlib.Omega.{arith}
 use borrow.Author.Tests.{lt-ltb, le-ltb}
 use lib.IntN.{ℤ, pos, negsuc}
-use lib.Dec.{T, leb, ltb, eqb, ltb→lt, nleb→lt, leb→le, eqb→eq}
+use lib.Dec.{T, leb, ltb, ltb→lt, nleb→lt, leb→le, eqb→eq}
 use lib.Pow.{pow-add, pow-pos}
 use lib.Ieee.{Float, nan, inf, fin, Format, unlike, prec, emax, low, up, down, size, nearest, odd, units, round, sum, add, mul, fits}
 use lib.Ieee.Digits.{back, size-lt, size-reaches}

@@ -1,26 +1,26 @@
 -- Proves that an exported step that is refused leaves every lent array as it was (01, The four calls), as far as the logic tells one not-a-number from another,
 -- and that what an accepted one need not write holds its answer already.
-use Prim.Native.Nat.{ℕ, suc, _+_, _<_}
+use Prim.Native.Nat.{ℕ, _<_}
 use native.Mathlib.Omega.{arith}
-use mathlib.Core.Path.{_≡_, refl, sym, ap, _∙_, subst}
+use mathlib.Core.Path.{_≡_, refl, sym, _∙_, subst}
 use mathlib.Core.Bool.{Bool, false}
 use mathlib.Core.List.{List, [], _∷_}
 use lib.Arith.{lt-of-le-ne}
-use lib.ListN.{length, getD}
+use lib.ListN.{length}
 use lib.Ieee.{Float, nan}
 use Rattle.numeric.specs.Tabulate.{tabulate}
 use Rattle.tank_model.specs.declared.Step.{Step}
+use Rattle.tank_model.specs.Work.{End, refused, done, work}
+use Rattle.step_work.specs.declared.work.WorkAnswer.{WorkAnswer}
+use Rattle.step_work.specs.Arrays.{fittedIn, heatersOf, thermostatsOf, linesIn, HoldsLines}
+use Rattle.step_work.proofs.LentArrays.{places}
 use Rattle.storage_tank.specs.declared.StorageTank.{StorageTank}
 use Rattle.storage_tank.specs.declared.Report.{Report}
 use Rattle.storage_tank.specs.declared.Stepped.{Stepped}
-use Rattle.step_work.specs.declared.work.WorkAnswer.{WorkAnswer}
 use Rattle.storage_tank.specs.Tank.{fixedIn, stateIn}
-use Rattle.tank_model.specs.Work.{End, refused, done, work}
-use Rattle.step_work.specs.Arrays.{fittedIn, heatersOf, thermostatsOf, linesIn, HoldsLines}
 use Rattle.storage_tank.specs.Calls.{answer, stepped}
 use Rattle.storage_tank.specs.Answers.{acceptedStep}
 use Rattle.storage_tank.proofs.Calls.{refused-step}
-use Rattle.step_work.proofs.LentArrays.{places}
 use Rattle.shim.specs.Tanks.{tankIn, TankWritten}
 use Rattle.shim.specs.Reports.{reportIn, totalsOf, figuresOf, lineFlagsOf, roundsOf, ReportWritten}
 use Rattle.shim.specs.Answers.{StepAnswered}

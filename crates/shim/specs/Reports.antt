@@ -8,8 +8,8 @@ use lib.Ieee.{Float, nan}
 use Rattle.numeric.specs.Tabulate.{tabulate}
 use Rattle.working_order.specs.Order.{maxHeaters}
 use Rattle.tank_model.specs.declared.HeaterLine.{HeaterLine}
-use Rattle.storage_tank.specs.declared.Report.{Report}
 use Rattle.step_work.specs.Arrays.{linesIn}
+use Rattle.storage_tank.specs.declared.Report.{Report}
 
 -- what stands past the end of a list of lines
 abbrev noLine : HeaterLine

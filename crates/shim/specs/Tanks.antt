@@ -6,9 +6,9 @@ use mathlib.Core.List.{List, [], _∷_}
 use lib.ListN.{getD}
 use lib.Ieee.{Float, nan}
 use Rattle.cylinder.specs.declared.Cylinder.{Cylinder}
-use Rattle.storage_tank.specs.declared.StorageTank.{StorageTank}
 use Rattle.tank_model.specs.declared.TankDesign.{TankDesign}
 use Rattle.step_work.specs.Arrays.{fittedIn, heatersOf, thermostatsOf}
+use Rattle.storage_tank.specs.declared.StorageTank.{StorageTank}
 use Rattle.storage_tank.specs.Tank.{tankWith}
 
 -- ---- from arrays

@@ -11,9 +11,9 @@ use cylinder::Cylinder;
 use draw_off::event::MAX_EVENTS;
 use mixing::MixAnswer;
 use mixing::limits::MAX_LAYERS;
-use storage_tank::StorageTank;
 use step_work::arrays::THREE_EACH;
 use step_work::work::WorkAnswer;
+use storage_tank::StorageTank;
 use working_order::MAX_HEATERS;
 
 fn number_of(a: MixAnswer) -> u8

@@ -4,8 +4,8 @@ ghost use Prim.Native.Nat.{_<_};
 ghost use Rattle.working_order.specs.Order.{maxHeaters};
 ghost use Rattle.step_work.specs.Arrays.{heaterIn, fittedIn};
 ghost use Rattle.shim.specs.Tanks.{designIn, countsOf, numbersOf};
-use tank_model::Heater;
 use storage_tank::StorageTank;
+use tank_model::Heater;
 use tank_model::TankDesign;
 use working_order::MAX_HEATERS;
 

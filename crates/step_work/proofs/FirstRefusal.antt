@@ -12,11 +12,11 @@ use Rattle.numeric.specs.Holds.{holds, holds-same}
 use Rattle.mixing.specs.Limits.{maxLayers}
 use Rattle.cylinder.specs.declared.Cylinder.{Cylinder}
 use Rattle.cylinder.specs.Layers.{allFinite}
+use Rattle.draw_off.specs.Lent.{maxEvents}
+use Rattle.working_order.specs.Order.{maxHeaters}
 use Rattle.tank_model.specs.declared.Heater.{Heater}
 use Rattle.tank_model.specs.declared.TankDesign.{TankDesign}
 use Rattle.tank_model.specs.declared.Step.{Step}
-use Rattle.draw_off.specs.Lent.{maxEvents}
-use Rattle.working_order.specs.Order.{maxHeaters}
 use Rattle.tank_model.specs.Fixed.{placed, noHeater, notPlaced, placedHeaters, Fixed, State, fixedOf}
 use Rattle.tank_model.specs.Checks.{unless, firstRefusal, fairHeater, layersCheck, numbersCheck, temperaturesCheck, tankChecks, stepChecks, feedCheck, pointsCheck, makeRefusal, stepRefusal}
 use Rattle.tank_model.proofs.Order.{many-placed, placed-at}

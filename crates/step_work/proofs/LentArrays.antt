@@ -1,6 +1,6 @@
 -- Proves how heaters, set points and lines are read from plain arrays and written to them (01, The four calls; Tank): what stands at a heater's place, that
 -- arrays made of structs give the structs back, and that a line is written in its place.
-use Prim.Native.Nat.{ℕ, suc, _+_, _<_, _≤_}
+use Prim.Native.Nat.{ℕ, suc, _+_, _<_}
 use native.Mathlib.Omega.{arith}
 use native.Mathlib.Decide.{ℕ-discrete}
 use mathlib.Core.Path.{_≡_, refl, sym, ap, _∙_, subst}
@@ -12,7 +12,6 @@ use lib.Seq.{getD-set-same, getD-set-other}
 use lib.Ieee.{Float, nan}
 use Rattle.numeric.specs.Double.{zero-f}
 use Rattle.numeric.specs.Tabulate.{tabulate, tabulate-same, length-tabulate, at-tabulate}
-use Rattle.cylinder.specs.declared.Cylinder.{Cylinder}
 use Rattle.heating.specs.declared.SetPoints.{SetPoints}
 use Rattle.heating.specs.declared.SetPoints.the-variants.{Neither, Lower, Upper, Both}
 use Rattle.heating.specs.Switch.{hasUpper, upperOf}

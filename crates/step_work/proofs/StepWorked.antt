@@ -2,29 +2,25 @@
 use mathlib.Core.Path.{_≡_, refl, sym, ap, _∙_, subst}
 use mathlib.Core.List.{List, [], _∷_}
 use mathlib.Core.Bool.{Bool, true, false, cond, _&&_}
-use Prim.Native.Nat.{ℕ, zero, suc, _-_, _≤_}
-use native.Mathlib.Omega.{arith}
-use lib.Dec.{leb, eqb, leb→le}
+use Prim.Native.Nat.{ℕ, zero, suc, _-_}
 use lib.ListN.{getD, replicate}
 use lib.Ieee.{Float, nan}
 use lib.Ieee.Scale.{finite}
-use lib.Ieee.Fits.{and-l}
 use Rattle.numeric.specs.Double.{dbl, _⊛_, _⊘_, zero-f}
 use Rattle.numeric.specs.Close.{wideClose}
 use Rattle.mixing.specs.Limits.{maxLayers}
 use Rattle.cylinder.specs.declared.Cylinder.{Cylinder}
 use Rattle.draw_off.specs.declared.Totals.{Totals}
 use Rattle.draw_off.specs.declared.event.EventAnswer.{EventAnswer}
-use Rattle.draw_off.specs.Lent.{maxEvents, drawingOf}
+use Rattle.draw_off.specs.Lent.{drawingOf}
 use Rattle.draw_off.specs.Event.{Event, Drawing, eventOf, tempsAfterEvent, totalsAfterEvent, eventNumber, drawAll}
-use Rattle.working_order.specs.Order.{maxHeaters}
 use Rattle.tank_model.specs.declared.HeaterLine.{HeaterLine}
 use Rattle.tank_model.specs.declared.Step.{Step}
-use Rattle.step_work.specs.declared.work.WorkAnswer.{WorkAnswer}
 use Rattle.tank_model.specs.Fixed.{Fixed, State}
 use Rattle.tank_model.specs.Order.{workingOrder}
 use Rattle.tank_model.specs.Checks.{stepRefusal}
 use Rattle.tank_model.specs.Work.{Progress, Turn, End, refused, done, resume, andThen, endBy, withDraw, afterEvent, event, events, wantedVolumes, averageOf, withAverage, turnOf, heaterTurn, turns, allTurns, opening, recoverable, closed, begin, work}
+use Rattle.step_work.specs.declared.work.WorkAnswer.{WorkAnswer}
 use Rattle.step_work.specs.Lent.{Heated, settingsOnly, unheated, progressOf, noTotals, StepWorked}
 
 -- ---- the events

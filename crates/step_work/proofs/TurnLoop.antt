@@ -23,8 +23,8 @@ use Rattle.tank_model.specs.Fixed.{Placed, Fixed, noHeater, placedHeaters, heat
 use Rattle.tank_model.specs.Order.{comesBefore, workingOrder}
 use Rattle.tank_model.specs.Checks.{noSetting}
 use Rattle.tank_model.specs.Work.{Progress, Turn, End, refused, done, Work, resume, andThen, endBy, turnOf, afterTurn, heaterTurn, turns}
-use Rattle.step_work.specs.Lent.{Heated, immersion, settingsOnly, afterHeat, TurnWorked, progressOf}
 use Rattle.tank_model.proofs.Order.{many-placed, placed-at}
+use Rattle.step_work.specs.Lent.{Heated, immersion, settingsOnly, afterHeat, TurnWorked, progressOf}
 
 -- ---- what follows an end by a number
 

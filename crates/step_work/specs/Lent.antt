@@ -17,11 +17,11 @@ use Rattle.tank_model.specs.declared.Heater.{Heater}
 use Rattle.tank_model.specs.declared.Setting.{Setting}
 use Rattle.tank_model.specs.declared.Step.{Step}
 use Rattle.tank_model.specs.declared.HeaterLine.{HeaterLine}
+use Rattle.tank_model.specs.Fixed.{placed, placedHeaters, Fixed, State}
+use Rattle.tank_model.specs.Work.{Progress, refused, done, lineOf, zeroLine, turns, endBy, recoverable, work}
 use Rattle.step_work.specs.declared.turns.TurnsAnswer.{TurnsAnswer}
 use Rattle.step_work.specs.declared.work.WorkAnswer.{WorkAnswer}
-use Rattle.tank_model.specs.Fixed.{placed, placedHeaters, Fixed, State}
 use Rattle.step_work.specs.Arrays.{linesIn}
-use Rattle.tank_model.specs.Work.{Progress, refused, done, lineOf, zeroLine, turns, endBy, recoverable, work}
 
 -- the heater x in a tank of n layers
 abbrev pub immersion : ℕ → Heater → Immersion

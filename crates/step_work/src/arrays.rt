@@ -2,15 +2,15 @@
 ghost use mathlib.Core.Path.{_≡_};
 ghost use Prim.Native.Nat.{_+_, _<_};
 ghost use lib.ListN.{getD, length, set};
-ghost use Rattle.working_order.specs.Order.{maxHeaters};
 ghost use Rattle.heating.specs.Switch.{hasUpper, upperOf};
+ghost use Rattle.working_order.specs.Order.{maxHeaters};
 ghost use Rattle.tank_model.specs.Fixed.{noHeater};
 ghost use Rattle.tank_model.specs.Checks.{noSetting};
 ghost use Rattle.step_work.specs.Arrays.{fittedIn, heatersOf, thermostatsOf, pointsIn, settingsIn, hasLower, lowerOf, presentOf, setPointsOf, lineIn, linesIn, HoldsLines};
+use heating::SetPoints;
 use tank_model::Heater;
 use tank_model::HeaterLine;
 use tank_model::Setting;
-use heating::SetPoints;
 use working_order::MAX_HEATERS;
 
 // A number for each heater, three of them one after the other; and two of them.

@@ -7,14 +7,14 @@ ghost use Rattle.numeric.specs.Holds.{holds};
 ghost use Rattle.draw_off.specs.Lent.{maxEvents};
 ghost use Rattle.working_order.specs.Order.{maxHeaters};
 ghost use Rattle.tank_model.specs.Fixed.{placed, noHeater};
-ghost use Rattle.step_work.specs.Arrays.{fittedIn, settingsIn};
 ghost use Rattle.tank_model.specs.Checks.{notNegative, isPosition, fairHeater, fairPoints, numbersCheck, noSetting};
-use tank_model::Heater;
+ghost use Rattle.step_work.specs.Arrays.{fittedIn, settingsIn};
 use crate::arrays::THREE_EACH;
 use crate::arrays::TWO_EACH;
 use cylinder::Cylinder;
 use draw_off::event::MAX_EVENTS;
 use heating::SetPoints;
+use tank_model::Heater;
 use working_order::MAX_HEATERS;
 
 // Finite and not below zero: -0.0 is a number like 0.0.

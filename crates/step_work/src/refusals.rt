@@ -9,14 +9,14 @@ ghost use Rattle.numeric.specs.Holds.{holds};
 ghost use Rattle.draw_off.specs.Lent.{maxEvents};
 ghost use Rattle.working_order.specs.Order.{maxHeaters};
 ghost use Rattle.tank_model.specs.Fixed.{placed, noHeater, fixedOf};
-ghost use Rattle.step_work.specs.Arrays.{fittedIn, fixedWith, stepWith};
 ghost use Rattle.tank_model.specs.Checks.{unless, firstRefusal, fairHeater, layersCheck, numbersCheck, temperaturesCheck, feedCheck, pointsCheck, makeRefusal, stepRefusal};
-use tank_model::TankDesign;
+ghost use Rattle.step_work.specs.Arrays.{fittedIn, fixedWith, stepWith};
 use crate::arrays::THREE_EACH;
 use crate::arrays::TWO_EACH;
 use cylinder::Cylinder;
 use draw_off::event::MAX_EVENTS;
 use mixing::limits::MAX_LAYERS;
+use tank_model::TankDesign;
 use working_order::MAX_HEATERS;
 
 pub fn cylinder_of(m: TankDesign) -> Cylinder

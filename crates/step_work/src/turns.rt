@@ -14,14 +14,14 @@ ghost use Rattle.tank_model.specs.Order.{workingOrder};
 ghost use Rattle.tank_model.specs.Work.{zeroLine};
 ghost use Rattle.step_work.specs.Arrays.{fittedIn, settingsIn, HoldsLines, fixedWith};
 ghost use Rattle.step_work.specs.Lent.{immersion, noTurns, heatedIn, TurnWorked, TurnsWorked};
-use tank_model::Heater;
-use tank_model::HeaterLine;
 use crate::arrays::THREE_EACH;
 use crate::arrays::TWO_EACH;
 use cylinder::Cylinder;
 use heating::SetPoints;
 use heating::turn::Immersion;
 use mixing::limits::MAX_LAYERS;
+use tank_model::Heater;
+use tank_model::HeaterLine;
 use working_order::MAX_HEATERS;
 
 // Where the turns have come to, besides what they write in lent arrays: the number of 01's refusal or 0, and the heaters' losses so far.

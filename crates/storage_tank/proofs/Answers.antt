@@ -1,7 +1,7 @@
 -- Proves what make and step answer (01, The four calls) from what their parts decide: what make is refused for, and how a step's work ended.
-use mathlib.Core.Path.{_≡_, refl, sym, _∙_}
+use mathlib.Core.Path.{_≡_, refl}
 use mathlib.Core.List.{List, []}
-use mathlib.Core.Bool.{Bool, _&&_}
+use mathlib.Core.Bool.{Bool}
 use Prim.Native.Nat.{ℕ, zero, suc, _≤_}
 use lib.Dec.{leb, leb→le}
 use lib.ListN.{length}

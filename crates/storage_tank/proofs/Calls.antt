@@ -15,17 +15,17 @@ use Rattle.numeric.specs.Holds.{at-holds}
 use Rattle.mixing.specs.Limits.{maxLayers}
 use Rattle.cylinder.specs.Layers.{allFinite}
 use Rattle.tank_model.specs.declared.TankDesign.{TankDesign}
-use Rattle.storage_tank.specs.declared.StorageTank.{StorageTank}
 use Rattle.tank_model.specs.declared.Step.{Step}
-use Rattle.storage_tank.specs.declared.Report.{Report}
 use Rattle.tank_model.specs.Fixed.{Fixed, fixedOf}
-use Rattle.storage_tank.specs.Tank.{fixedIn, stateIn}
 use Rattle.tank_model.specs.Checks.{firstRefusal, tankChecks, makeRefusal}
 use Rattle.tank_model.specs.Work.{End, refused, done, work}
 use Rattle.tank_model.specs.History.{designRefusal, start}
+use Rattle.tank_model.proofs.Works.{made-heaters, tank-passes}
+use Rattle.storage_tank.specs.declared.StorageTank.{StorageTank}
+use Rattle.storage_tank.specs.declared.Report.{Report}
+use Rattle.storage_tank.specs.Tank.{fixedIn, stateIn}
 use Rattle.storage_tank.specs.Calls.{made, answer, stepped}
 use Rattle.storage_tank.specs.Demand.{tankOf, holding}
-use Rattle.tank_model.proofs.Works.{made-heaters, tank-passes}
 use Rattle.storage_tank.proofs.Demand.{fixed-is, made-is}
 
 -- ---- a refused step

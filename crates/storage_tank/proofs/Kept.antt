@@ -18,20 +18,20 @@ use Rattle.draw_off.proofs.Keeps.{events-keep}
 use Rattle.heating.proofs.Keeps.{turn-keeps-temps}
 use Rattle.working_order.specs.Order.{maxHeaters}
 use Rattle.tank_model.specs.declared.TankDesign.{TankDesign}
-use Rattle.storage_tank.specs.declared.StorageTank.{StorageTank}
-use Rattle.storage_tank.specs.declared.Report.{Report}
 use Rattle.tank_model.specs.declared.Step.{Step}
 use Rattle.tank_model.specs.Fixed.{Fixed, State, immersionOf}
-use Rattle.storage_tank.specs.Tank.{fixedIn, stateIn}
 use Rattle.tank_model.specs.Order.{workingOrder}
 use Rattle.tank_model.specs.Checks.{pointsOf, stepRefusal}
 use Rattle.tank_model.specs.Work.{Progress, Turn, End, refused, done, Work, resume, andThen, endBy, events, wantedVolumes, withAverage, turnOf, zeroLine, afterTurn, heaterTurn, turns, opening, closed, begin, work}
 use Rattle.tank_model.specs.History.{Call, step, designRefusal}
-use Rattle.storage_tank.specs.Calls.{made, madeOf, answer, stepped, answered, answers}
-use Rattle.storage_tank.specs.Demand.{noAnswer}
 use Rattle.tank_model.specs.Members.{All}
 use Rattle.tank_model.proofs.Order.{many-placed, order-below}
 use Rattle.step_work.proofs.StepWorked.{events-end}
+use Rattle.storage_tank.specs.declared.StorageTank.{StorageTank}
+use Rattle.storage_tank.specs.declared.Report.{Report}
+use Rattle.storage_tank.specs.Tank.{fixedIn, stateIn}
+use Rattle.storage_tank.specs.Calls.{made, madeOf, answer, stepped, answered, answers}
+use Rattle.storage_tank.specs.Demand.{noAnswer}
 
 -- ---- what holds of where a work ended, if it was not refused
 

@@ -11,17 +11,17 @@ use lib.Ieee.{Float}
 use Rattle.numeric.specs.Double.{zero-f}
 use Rattle.tank_model.specs.declared.Heater.{Heater}
 use Rattle.tank_model.specs.declared.TankDesign.{TankDesign}
+use Rattle.tank_model.specs.Fixed.{State, noHeater}
+use Rattle.tank_model.specs.Work.{Turn, Work, lineOf, zeroLine}
+use Rattle.tank_model.specs.History.{Call, designRefusal, start, carried, history}
+use Rattle.tank_model.specs.Members.{All}
+use Rattle.tank_model.specs.Course.{accepted, numberOf}
+use Rattle.tank_model.specs.HistoryDemand.{passed, RightlySupplied, noWork, OnSince, HistoryDemand}
 use Rattle.storage_tank.specs.declared.StorageTank.{StorageTank}
 use Rattle.storage_tank.specs.declared.Report.{Report}
 use Rattle.storage_tank.specs.declared.Made.{Made}
 use Rattle.storage_tank.specs.declared.Stepped.{Stepped}
-use Rattle.tank_model.specs.Fixed.{State, noHeater}
-use Rattle.tank_model.specs.Work.{Turn, Work, lineOf, zeroLine}
-use Rattle.tank_model.specs.History.{Call, designRefusal, start, carried, history}
 use Rattle.storage_tank.specs.Calls.{zeroHeater, fittedHeaters, zeroTank, answered}
-use Rattle.tank_model.specs.Members.{All}
-use Rattle.tank_model.specs.Course.{accepted, numberOf}
-use Rattle.tank_model.specs.HistoryDemand.{passed, RightlySupplied, noWork, OnSince, HistoryDemand}
 
 -- what a turn supplied: read in the report of an accepted step, and else as worked
 abbrev pub suppliedIn : Work → Stepped → Turn → Float

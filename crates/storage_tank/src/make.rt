@@ -8,11 +8,11 @@ ghost use lib.ListN.{drop, replicate};
 ghost use Rattle.numeric.specs.Double.{zero-f};
 ghost use Rattle.mixing.specs.Limits.{maxLayers};
 ghost use Rattle.storage_tank.specs.Calls.{zeroHeater, cleanHeater, fittedHeaters, zeroTank, newTank, made};
-use tank_model::Heater;
 use crate::Made;
 use crate::StorageTank;
-use tank_model::TankDesign;
 use mixing::limits::MAX_LAYERS;
+use tank_model::Heater;
+use tank_model::TankDesign;
 use working_order::MAX_HEATERS;
 
 // n layers at x, and zeros past them.

@@ -9,10 +9,10 @@ use lib.Dec.{T}
 use lib.ListN.{length, getD}
 use lib.Ieee.{le}
 use Rattle.numeric.specs.Tabulate.{tabulate, length-tabulate, at-tabulate}
+use Rattle.working_order.specs.Order.{indices, insert, insertionSort}
 use Rattle.tank_model.specs.declared.Heater.{Heater}
 use Rattle.tank_model.specs.declared.TankDesign.{TankDesign}
 use Rattle.tank_model.specs.Fixed.{Fixed, placed, noHeater, notPlaced, placedHeaters, heaterOf, fixedOf}
-use Rattle.working_order.specs.Order.{indices, insert, insertionSort}
 use Rattle.tank_model.specs.Order.{comesBefore, workingOrder}
 use Rattle.tank_model.specs.Members.{All, Distinct, ChainFrom, Chain}
 use Rattle.tank_model.specs.Course.{positionOf, WorkedBefore, InWorkingOrder}

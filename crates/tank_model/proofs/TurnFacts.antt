@@ -16,9 +16,9 @@ use Rattle.heating.specs.declared.turn.Immersion.{Immersion}
 use Rattle.heating.specs.Turn.{Turned, input, heatAndMix, adjustedInput, afterMixing, turn, turnNumber}
 use Rattle.heating.specs.SwitchLaws.{latched, switches-latch}
 use Rattle.heating.specs.SupplyLaws.{supply-at-most, supply-off}
+use Rattle.working_order.specs.Order.{maxHeaters}
 use Rattle.tank_model.specs.declared.TankDesign.{TankDesign}
 use Rattle.tank_model.specs.declared.Step.{Step}
-use Rattle.working_order.specs.Order.{maxHeaters}
 use Rattle.tank_model.specs.Fixed.{Placed, fixedOf}
 use Rattle.tank_model.specs.Checks.{isPositive, notNegative, pointsOf}
 use Rattle.tank_model.specs.Work.{Progress, Turn, endBy, turnOf, afterTurn, heaterTurn}

@@ -16,9 +16,9 @@ use Rattle.mixing.specs.Rearrange.{sorted, unsorted}
 use Rattle.cylinder.specs.Layers.{allFinite}
 use Rattle.draw_off.specs.Event as Event
 use Rattle.draw_off.specs.Event.{Event, EventMixing, unmixed, mixed, eventMixing, eventOf, eventNumber}
+use Rattle.working_order.specs.Order.{maxHeaters}
 use Rattle.tank_model.specs.declared.TankDesign.{TankDesign}
 use Rattle.tank_model.specs.declared.Step.{Step}
-use Rattle.working_order.specs.Order.{maxHeaters}
 use Rattle.tank_model.specs.Fixed.{Placed, Fixed, State, heaterOf, fixedOf}
 use Rattle.tank_model.specs.Order.{workingOrder}
 use Rattle.tank_model.specs.Checks.{firstRefusal, unless, isPositive, notNegative, isPosition, fairHeater, tankChecks, stepChecks, makeRefusal, stepRefusal}

@@ -11,12 +11,12 @@ use Rattle.numeric.specs.Holds.{holds}
 use Rattle.mixing.specs.Limits.{maxLayers}
 use Rattle.cylinder.specs.declared.Cylinder.{Cylinder}
 use Rattle.cylinder.specs.Layers.{allFinite}
+use Rattle.draw_off.specs.Lent.{maxEvents}
 use Rattle.heating.specs.declared.SetPoints.{SetPoints}
 use Rattle.heating.specs.declared.SetPoints.the-variants.{Neither, Lower, Upper, Both}
+use Rattle.working_order.specs.Order.{maxHeaters}
 use Rattle.tank_model.specs.declared.Setting.{Setting}
 use Rattle.tank_model.specs.declared.Step.{Step}
-use Rattle.draw_off.specs.Lent.{maxEvents}
-use Rattle.working_order.specs.Order.{maxHeaters}
 use Rattle.tank_model.specs.Fixed.{Placed, Fixed, State, heaterOf}
 
 -- n, and 0 where the check passes

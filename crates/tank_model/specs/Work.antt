@@ -16,9 +16,9 @@ use Rattle.draw_off.specs.declared.Totals.{Totals}
 use Rattle.draw_off.specs.Event.{Event, eventOf, tempsAfterEvent, totalsAfterEvent, eventNumber}
 use Rattle.heating.specs.declared.SetPoints.{SetPoints}
 use Rattle.heating.specs.Turn.{Turned, turn, turnNumber}
+use Rattle.working_order.specs.Order.{maxHeaters}
 use Rattle.tank_model.specs.declared.HeaterLine.{HeaterLine}
 use Rattle.tank_model.specs.declared.Step.{Step}
-use Rattle.working_order.specs.Order.{maxHeaters}
 use Rattle.tank_model.specs.Fixed.{Fixed, State, immersionOf}
 use Rattle.tank_model.specs.Order.{workingOrder}
 use Rattle.tank_model.specs.Checks.{pointsOf, stepRefusal}

@@ -7,10 +7,10 @@ use borrow.Author.Tests.{eq-eqb, ne-eqb}
 use lib.ListN.{take}
 use Rattle.working_order.specs.Order.{risingOrder}
 use Rattle.working_order.proofs.Entries.{entry}
-use Rattle.storage_tank.specs.Tank.{fixedIn}
 use Rattle.tank_model.specs.Fixed.{placedHeaters}
 use Rattle.tank_model.specs.Order.{workingOrder}
 use Rattle.step_work.proofs.TurnLoop.{order-is}
+use Rattle.storage_tank.specs.Tank.{fixedIn}
 use Rattle.job_lines.specs.Lines.{stepLines}
 use Rattle.job_lines.proofs.Ordered.{accepted-order}
 use borrow.Author.Needs.{needs}

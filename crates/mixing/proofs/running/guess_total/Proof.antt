@@ -1,7 +1,6 @@
 -- `running::guess_total` meets its contract: one case after the other.
 use borrow.Author.Tests.{ne-eqb}
 use Rattle.mixing.specs.Running.{guessedTotal}
-use borrow.Author.Needs.{needs}
 use Rattle.mixing.proofs.running.guess_total.Statement.{statement}
 use Rattle.mixing.proofs.running.guess_total.Tie as tie
 

@@ -1,6 +1,5 @@
 -- `arrays::points_in` meets its contract (01, Tank): the four cases of set points.
 use Rattle.step_work.specs.Arrays.{pointsIn}
-use borrow.Author.Needs.{needs}
 use Rattle.step_work.proofs.arrays.points_in.Statement.{statement}
 use Rattle.step_work.proofs.arrays.points_in.Tie as tie
 

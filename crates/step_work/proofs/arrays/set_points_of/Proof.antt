@@ -1,8 +1,8 @@
 -- `arrays::set_points_of` meets its contract (01, Tank): the settings are taken one by one.
 use mathlib.Core.Path.{refl}
 use Rattle.numeric.specs.Tabulate.{tabulate}
-use Rattle.step_work.proofs.LentArrays.{list-same}
 use Rattle.step_work.specs.Arrays.{setPointsOf}
+use Rattle.step_work.proofs.LentArrays.{list-same}
 use borrow.Author.Needs.{needs}
 use Rattle.step_work.proofs.arrays.set_points_of.Statement.{statement}
 use Rattle.step_work.proofs.arrays.set_points_of.Tie as tie

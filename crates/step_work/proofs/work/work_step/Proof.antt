@@ -1,5 +1,5 @@
 -- `work_step` meets its contract (01, Step): each of its parts may refuse the step; else it is accepted with what they leave.
-use mathlib.Core.Path.{refl, sym, _∙_}
+use mathlib.Core.Path.{sym, _∙_}
 use native.Mathlib.Omega.{arith}
 use borrow.Author.Tests.{not-true, not-false}
 use Rattle.tank_model.specs.Fixed.{State}
