@@ -24,8 +24,8 @@ use Rattle.tank_model.specs.Checks.{stepRefusal}
 use Rattle.tank_model.specs.Members.{All}
 use Rattle.tank_model.specs.Work.{Progress, Turn, End, refused, done, resume, andThen, endBy, withDraw, event, events, wantedVolumes, withAverage, turnOf, afterTurn, heaterTurn, turns, allTurns, opening, begin, work}
 use Rattle.tank_model.proofs.Order.{many-placed, placed-at, order-below}
+use Rattle.tank_arrays.proofs.FirstRefusal.{step-counts}
 use Rattle.step_work.specs.Lent.{noTotals}
-use Rattle.step_work.proofs.FirstRefusal.{step-counts}
 use Rattle.step_work.proofs.StepWorked.{events-end}
 use Rattle.storage_tank.specs.declared.StorageTank.{StorageTank}
 use Rattle.storage_tank.specs.Tank.{fixedIn, stateIn}

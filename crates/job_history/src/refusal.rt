@@ -10,12 +10,12 @@ pub fn step_refusal(t: StorageTank, a: Step) -> u8
 {
     let c = storage_tank::hot_water::cylinder_in(t);
     let fitted = t.fitted;
-    let heaters = step_work::arrays::heaters_of(fitted);
-    let thermostats = step_work::arrays::thermostats_of(fitted);
+    let heaters = tank_arrays::arrays::heaters_of(fitted);
+    let thermostats = tank_arrays::arrays::thermostats_of(fitted);
     let settings = a.settings;
-    let present = step_work::arrays::present_of(settings);
-    let points = step_work::arrays::set_points_of(settings);
-    step_work::refusals::lent_refusal(
+    let present = tank_arrays::arrays::present_of(settings);
+    let points = tank_arrays::arrays::set_points_of(settings);
+    tank_arrays::refusals::lent_refusal(
         c,
         t.heaters,
         &t.temps,

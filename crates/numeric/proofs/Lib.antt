@@ -15,3 +15,4 @@ pub mod FastTwoSum
 pub mod FourTerms
 pub mod EqualTerms
 pub mod Fourfold
+pub mod Filling

@@ -11,9 +11,9 @@ use lib.Ieee.{Float, nan}
 use Rattle.numeric.specs.Tabulate.{tabulate}
 use Rattle.tank_model.specs.declared.Step.{Step}
 use Rattle.tank_model.specs.Work.{End, refused, done, work}
+use Rattle.tank_arrays.specs.Arrays.{fittedIn, heatersOf, thermostatsOf, linesIn, HoldsLines}
+use Rattle.tank_arrays.proofs.LentArrays.{places}
 use Rattle.step_work.specs.declared.work.WorkAnswer.{WorkAnswer}
-use Rattle.step_work.specs.Arrays.{fittedIn, heatersOf, thermostatsOf, linesIn, HoldsLines}
-use Rattle.step_work.proofs.LentArrays.{places}
 use Rattle.storage_tank.specs.declared.StorageTank.{StorageTank}
 use Rattle.storage_tank.specs.declared.Report.{Report}
 use Rattle.storage_tank.specs.declared.Stepped.{Stepped}

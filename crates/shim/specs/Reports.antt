@@ -8,7 +8,7 @@ use lib.Ieee.{Float, nan}
 use Rattle.numeric.specs.Tabulate.{tabulate}
 use Rattle.working_order.specs.Order.{maxHeaters}
 use Rattle.tank_model.specs.declared.HeaterLine.{HeaterLine}
-use Rattle.step_work.specs.Arrays.{linesIn}
+use Rattle.tank_arrays.specs.Arrays.{linesIn}
 use Rattle.storage_tank.specs.declared.Report.{Report}
 
 -- what stands past the end of a list of lines

@@ -5,7 +5,7 @@ use mathlib.Core.List.{List}
 use lib.ListN.{getD}
 use lib.Ieee.{Float}
 use Rattle.tank_model.specs.declared.Step.{Step}
-use Rattle.step_work.specs.Arrays.{stepWith}
+use Rattle.tank_arrays.specs.Arrays.{stepWith}
 
 -- asked: how many events, how many set-point entries
 abbrev pub stepIn : Float → List ℕ → List Float → List Bool → List Float → Step

@@ -7,7 +7,7 @@ use lib.ListN.{getD}
 use lib.Ieee.{Float, nan}
 use Rattle.cylinder.specs.declared.Cylinder.{Cylinder}
 use Rattle.tank_model.specs.declared.TankDesign.{TankDesign}
-use Rattle.step_work.specs.Arrays.{fittedIn, heatersOf, thermostatsOf}
+use Rattle.tank_arrays.specs.Arrays.{fittedIn, heatersOf, thermostatsOf}
 use Rattle.storage_tank.specs.declared.StorageTank.{StorageTank}
 use Rattle.storage_tank.specs.Tank.{tankWith}
 

@@ -11,9 +11,9 @@ use cylinder::Cylinder;
 use draw_off::event::MAX_EVENTS;
 use mixing::MixAnswer;
 use mixing::limits::MAX_LAYERS;
-use step_work::arrays::THREE_EACH;
 use step_work::work::WorkAnswer;
 use storage_tank::StorageTank;
+use tank_arrays::arrays::THREE_EACH;
 use working_order::MAX_HEATERS;
 
 fn number_of(a: MixAnswer) -> u8
@@ -71,9 +71,9 @@ fn put_tank(
     let layers = t.temps;
     *temps = layers;
     let fitted = t.fitted;
-    let h = step_work::arrays::heaters_of(fitted);
+    let h = tank_arrays::arrays::heaters_of(fitted);
     *heaters = h;
-    let b = step_work::arrays::thermostats_of(fitted);
+    let b = tank_arrays::arrays::thermostats_of(fitted);
     *thermostats = b;
     let f = t.flags;
     *flags = f;

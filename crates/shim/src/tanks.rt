@@ -2,7 +2,7 @@
 ghost use mathlib.Core.Path.{_≡_};
 ghost use Prim.Native.Nat.{_<_};
 ghost use Rattle.working_order.specs.Order.{maxHeaters};
-ghost use Rattle.step_work.specs.Arrays.{heaterIn, fittedIn};
+ghost use Rattle.tank_arrays.specs.Arrays.{heaterIn, fittedIn};
 ghost use Rattle.shim.specs.Tanks.{designIn, countsOf, numbersOf};
 use storage_tank::StorageTank;
 use tank_model::Heater;

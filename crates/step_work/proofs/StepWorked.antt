@@ -20,8 +20,10 @@ use Rattle.tank_model.specs.Fixed.{Fixed, State}
 use Rattle.tank_model.specs.Order.{workingOrder}
 use Rattle.tank_model.specs.Checks.{stepRefusal}
 use Rattle.tank_model.specs.Work.{Progress, Turn, End, refused, done, resume, andThen, endBy, withDraw, afterEvent, event, events, wantedVolumes, averageOf, withAverage, turnOf, heaterTurn, turns, allTurns, opening, recoverable, closed, begin, work}
+use Rattle.tank_arrays.specs.Arrays.{ZeroLines}
+use Rattle.tank_arrays.proofs.LentArrays.{zero-lines}
 use Rattle.step_work.specs.declared.work.WorkAnswer.{WorkAnswer}
-use Rattle.step_work.specs.Lent.{Heated, settingsOnly, unheated, progressOf, noTotals, StepWorked}
+use Rattle.step_work.specs.Lent.{Heated, settingsOnly, noTurns, heatedIn, unheated, progressOf, noTotals, StepWorked}
 
 -- ---- the events
 
@@ -58,6 +60,11 @@ turns-settings f a (h ∷ hs) s = go _ _ (λ s'. turns-settings f a hs s')
         → resume [] us e (λ s'. turns f a hs s') .end ≡ resume [] us e (λ s'. turns f (settingsOnly (a .settings)) hs s') .end
     go us (refused n) ih = unfold resume in refl
     go us (done s') ih = unfold resume in (ih s')
+
+-- ---- arrays of zeros hold the lines before the first turn
+
+pub zeros-unheated : (on : List Bool) (xs : List Float) (bs : List Bool) (ns : List ℕ) → ZeroLines xs bs ns → heatedIn noTurns on xs bs ns ≡ unheated on
+zeros-unheated on xs bs ns z = rw (z .figures-zero, z .flags-zero, z .rounds-zero, zero-lines)
 
 -- ---- a step that is worked
 

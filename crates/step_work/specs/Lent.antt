@@ -19,9 +19,9 @@ use Rattle.tank_model.specs.declared.Step.{Step}
 use Rattle.tank_model.specs.declared.HeaterLine.{HeaterLine}
 use Rattle.tank_model.specs.Fixed.{placed, placedHeaters, Fixed, State}
 use Rattle.tank_model.specs.Work.{Progress, refused, done, lineOf, zeroLine, turns, endBy, recoverable, work}
+use Rattle.tank_arrays.specs.Arrays.{linesIn}
 use Rattle.step_work.specs.declared.turns.TurnsAnswer.{TurnsAnswer}
 use Rattle.step_work.specs.declared.work.WorkAnswer.{WorkAnswer}
-use Rattle.step_work.specs.Arrays.{linesIn}
 
 -- the heater x in a tank of n layers
 abbrev pub immersion : ℕ → Heater → Immersion

@@ -1,3 +1,2 @@
 -- How the code of a step holds what the definitions speak of.
-pub mod Arrays
 pub mod Lent

@@ -12,14 +12,14 @@ ghost use Rattle.working_order.specs.Order.{maxHeaters};
 ghost use Rattle.tank_model.specs.Fixed.{noHeater};
 ghost use Rattle.tank_model.specs.Order.{workingOrder};
 ghost use Rattle.tank_model.specs.Work.{zeroLine};
-ghost use Rattle.step_work.specs.Arrays.{fittedIn, settingsIn, HoldsLines, fixedWith};
+ghost use Rattle.tank_arrays.specs.Arrays.{fittedIn, settingsIn, HoldsLines, fixedWith};
 ghost use Rattle.step_work.specs.Lent.{immersion, noTurns, heatedIn, TurnWorked, TurnsWorked};
-use crate::arrays::THREE_EACH;
-use crate::arrays::TWO_EACH;
 use cylinder::Cylinder;
 use heating::SetPoints;
 use heating::turn::Immersion;
 use mixing::limits::MAX_LAYERS;
+use tank_arrays::arrays::THREE_EACH;
+use tank_arrays::arrays::TWO_EACH;
 use tank_model::Heater;
 use tank_model::HeaterLine;
 use working_order::MAX_HEATERS;
@@ -60,7 +60,7 @@ pub fn immersion_of(n: usize, x: Heater) -> Immersion
     Immersion {
         rated: x.rated,
         layer: numeric::whole::layer_of(x.position, n),
-        thermostat: numeric::whole::layer_of(crate::checks::thermostat_position(x), n),
+        thermostat: numeric::whole::layer_of(tank_arrays::checks::thermostat_position(x), n),
     }
 }
 
@@ -92,7 +92,7 @@ fn heat_turn(
         losses: u.losses,
         rounds: u.rounds,
     };
-    crate::arrays::write_line(h, line, figures, flags, rounds);
+    tank_arrays::arrays::write_line(h, line, figures, flags, rounds);
     TurnsAnswer {
         number: u.number,
         losses: s.losses + u.losses,
@@ -153,8 +153,8 @@ fn heat_in_order(
     let mut k = 0;
     while k < n {
         let h = order[k];
-        let x = crate::arrays::heater_at(heaters, thermostats, h);
-        let p = crate::arrays::points_at(present, points, h);
+        let x = tank_arrays::arrays::heater_at(heaters, thermostats, h);
+        let p = tank_arrays::arrays::points_at(present, points, h);
         s = heat_turn(
             c,
             vol,

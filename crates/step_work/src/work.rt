@@ -8,14 +8,14 @@ ghost use lib.ListN.{getD};
 ghost use Rattle.numeric.specs.Double.{_⊘_, zero-f};
 ghost use Rattle.numeric.specs.Close.{wideClose};
 ghost use Rattle.mixing.specs.Limits.{maxLayers};
-ghost use Rattle.step_work.specs.Arrays.{linesIn, HoldsLines, ZeroLines, fixedWith, stepWith};
+ghost use Rattle.tank_arrays.specs.Arrays.{linesIn, HoldsLines, ZeroLines, fixedWith, stepWith};
 ghost use Rattle.step_work.specs.Lent.{noTotals, StepWorked};
-use crate::arrays::THREE_EACH;
-use crate::arrays::TWO_EACH;
 use cylinder::Cylinder;
 use draw_off::Totals;
 use draw_off::event::MAX_EVENTS;
 use mixing::limits::MAX_LAYERS;
+use tank_arrays::arrays::THREE_EACH;
+use tank_arrays::arrays::TWO_EACH;
 use working_order::MAX_HEATERS;
 
 // Before the first event.
@@ -92,7 +92,7 @@ pub fn work_step(
     requires { ⌜ ZeroLines (now figures) (now flags) (now rounds) ⌝ }
     ensures { λ r. ⌜ StepWorked (fixedWith c n (now (heaters .entry)) (now (thermostats .entry))) (record { temps = now (temps .entry); flags = now (on .entry) }) (stepWith feed events (now (volumes .entry)) entries (now (present .entry)) (now (points .entry))) r (now (temps .exit)) (now (on .exit)) (linesIn (now (figures .exit)) (now (flags .exit)) (now (rounds .exit))) × (r .number ≡ 0 → HoldsLines (now (figures .exit)) (now (flags .exit)) (now (rounds .exit))) ⌝ }
 {
-    let k = crate::refusals::lent_refusal(
+    let k = tank_arrays::refusals::lent_refusal(
         c,
         n,
         temps,

@@ -18,10 +18,10 @@ use Rattle.tank_model.specs.Fixed.{fixedOf}
 use Rattle.tank_model.specs.Checks.{makeRefusal}
 use Rattle.tank_model.specs.Work.{Progress, refused, done, work}
 use Rattle.tank_model.proofs.Works.{tank-passes}
+use Rattle.tank_arrays.specs.Arrays.{heatersOf, thermostatsOf, fixedWith}
+use Rattle.tank_arrays.proofs.LentArrays.{heaters-back}
 use Rattle.step_work.specs.declared.work.WorkAnswer.{WorkAnswer}
-use Rattle.step_work.specs.Arrays.{heatersOf, thermostatsOf, fixedWith}
 use Rattle.step_work.specs.Lent.{Left, StepWorked}
-use Rattle.step_work.proofs.LentArrays.{heaters-back}
 use Rattle.storage_tank.specs.declared.StorageTank.{StorageTank}
 use Rattle.storage_tank.specs.declared.Report.{Report}
 use Rattle.storage_tank.specs.Tank.{fixedIn, stateIn}

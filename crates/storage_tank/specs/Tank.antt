@@ -5,7 +5,7 @@ use mathlib.Core.List.{List}
 use lib.Ieee.{Float}
 use Rattle.cylinder.specs.declared.Cylinder.{Cylinder}
 use Rattle.tank_model.specs.Fixed.{Fixed, State, placedHeaters}
-use Rattle.step_work.specs.Arrays.{fittedIn}
+use Rattle.tank_arrays.specs.Arrays.{fittedIn}
 use Rattle.storage_tank.specs.declared.StorageTank.{StorageTank}
 
 -- what a tank holds

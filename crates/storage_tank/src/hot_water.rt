@@ -8,8 +8,8 @@ use crate::Stepped;
 use crate::StorageTank;
 use cylinder::Cylinder;
 use mixing::limits::MAX_LAYERS;
-use step_work::arrays::THREE_EACH;
 use step_work::work::WorkAnswer;
+use tank_arrays::arrays::THREE_EACH;
 use tank_model::HeaterLine;
 use tank_model::Step;
 use working_order::MAX_HEATERS;
@@ -62,11 +62,11 @@ impl StorageTank {
         ensures { λ r. ⌜ r ≡ stepped self report a ⌝ }
     {
         let fitted = self.fitted;
-        let heaters = step_work::arrays::heaters_of(fitted);
-        let thermostats = step_work::arrays::thermostats_of(fitted);
+        let heaters = tank_arrays::arrays::heaters_of(fitted);
+        let thermostats = tank_arrays::arrays::thermostats_of(fitted);
         let settings = a.settings;
-        let present = step_work::arrays::present_of(settings);
-        let points = step_work::arrays::set_points_of(settings);
+        let present = tank_arrays::arrays::present_of(settings);
+        let points = tank_arrays::arrays::set_points_of(settings);
         let c = cylinder_in(self);
         let mut temps = self.temps;
         let mut on = self.flags;
@@ -102,7 +102,7 @@ impl StorageTank {
             temps,
             on,
             w,
-            step_work::arrays::lines_in(figures, flags, rounds),
+            tank_arrays::arrays::lines_in(figures, flags, rounds),
         )
     }
 }

@@ -124,7 +124,7 @@ impl StorageTank {
     pub fn new(m: TankDesign) -> Made
         ensures { λ r. ⌜ r ≡ made m ⌝ }
     {
-        let n = step_work::refusals::make_refusal(m);
+        let n = tank_arrays::refusals::make_refusal(m);
         if n != 0 {
             return Made {
                 number: n,

@@ -3,7 +3,7 @@ use mathlib.Core.Path.{_≡_, _∙_}
 use Rattle.tank_model.specs.declared.Step.{Step}
 use Rattle.tank_model.specs.Fixed.{Fixed, State}
 use Rattle.tank_model.specs.Checks.{stepRefusal}
-use Rattle.step_work.proofs.LentArrays.{step-back}
+use Rattle.tank_arrays.proofs.LentArrays.{step-back}
 use Rattle.storage_tank.specs.Tank.{stateIn}
 use Rattle.storage_tank.proofs.Answers.{fixed-back}
 use borrow.Author.Needs.{needs}

@@ -1,6 +1,6 @@
 -- `tanks::fitted_in` meets its contract (01, The four calls): one heater after another.
 use Rattle.numeric.specs.Tabulate.{tabulate}
-use Rattle.step_work.specs.Arrays.{fittedIn}
+use Rattle.tank_arrays.specs.Arrays.{fittedIn}
 use borrow.Author.Needs.{needs}
 use Rattle.shim.proofs.tanks.fitted_in.Statement.{statement}
 use Rattle.shim.proofs.tanks.fitted_in.Tie as tie

@@ -6,8 +6,8 @@ use lib.Ieee.{Float}
 use lib.ListN.{take}
 use lib.Seq.{slice}
 use Rattle.draw_off.specs.declared.Totals.{Totals}
+use Rattle.tank_arrays.specs.Arrays.{fittedIn, settingsIn, HoldsLines}
 use Rattle.step_work.specs.declared.turns.TurnsAnswer.{TurnsAnswer}
-use Rattle.step_work.specs.Arrays.{fittedIn, settingsIn, HoldsLines}
 use Rattle.step_work.specs.Lent.{heatedIn}
 use Rattle.step_work.proofs.TurnLoop.{turnsFrom, start-with, loop-done, loop-on, loop-off}
 use borrow.Author.Needs.{needs}

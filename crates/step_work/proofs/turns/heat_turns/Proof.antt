@@ -5,7 +5,7 @@ use native.Mathlib.Omega.{arith}
 use lib.Ieee.{Float}
 use Rattle.working_order.specs.Order.{risingOrder}
 use Rattle.working_order.proofs.Entries.{entry}
-use Rattle.step_work.specs.Arrays.{fittedIn, settingsIn}
+use Rattle.tank_arrays.specs.Arrays.{fittedIn, settingsIn}
 use Rattle.step_work.specs.Lent.{noTurns, heatedIn}
 use Rattle.step_work.proofs.TurnLoop.{order-is, in-order}
 use borrow.Author.Needs.{needs}

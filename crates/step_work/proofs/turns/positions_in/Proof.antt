@@ -1,7 +1,7 @@
 -- `positions_in` meets its contract: the positions stand after the rated powers.
 use mathlib.Core.Path.{refl}
 use Rattle.numeric.specs.Tabulate.{tabulate}
-use Rattle.step_work.specs.Arrays.{fittedIn}
+use Rattle.tank_arrays.specs.Arrays.{fittedIn}
 use borrow.Author.Needs.{needs}
 use Rattle.step_work.proofs.turns.positions_in.Statement.{statement}
 use Rattle.step_work.proofs.turns.positions_in.Tie as tie

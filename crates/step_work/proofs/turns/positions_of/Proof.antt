@@ -8,10 +8,10 @@ use lib.Ieee.{Float, nan}
 use Rattle.numeric.specs.Double.{zero-f}
 use Rattle.numeric.specs.Tabulate.{tabulate}
 use Rattle.numeric.specs.Copy.{copied}
+use Rattle.numeric.proofs.Filling.{tabulated-turn, tabulated-end}
 use Rattle.working_order.specs.Order.{maxHeaters}
 use Rattle.tank_model.specs.declared.Heater.{Heater}
 use Rattle.tank_model.specs.Fixed.{noHeater}
-use Rattle.step_work.proofs.Filling.{tabulated-turn, tabulated-end}
 use borrow.Author.Needs.{needs}
 use Rattle.step_work.proofs.turns.positions_of.Statement.{statement}
 use Rattle.step_work.proofs.turns.positions_of.Tie as tie

@@ -3,11 +3,11 @@ use mathlib.Core.Path.{sym, _∙_}
 use native.Mathlib.Omega.{arith}
 use borrow.Author.Tests.{not-true, not-false}
 use Rattle.tank_model.specs.Fixed.{State}
-use Rattle.step_work.specs.Arrays.{fittedIn, fixedWith, stepWith}
-use Rattle.step_work.proofs.LentArrays.{zeros-hold, zeros-unheated}
+use Rattle.tank_arrays.specs.Arrays.{fittedIn, fixedWith, stepWith}
+use Rattle.tank_arrays.proofs.LentArrays.{zeros-hold}
+use Rattle.tank_arrays.proofs.FirstRefusal.{step-counts}
 use Rattle.step_work.proofs.TurnLoop.{start-with}
-use Rattle.step_work.proofs.FirstRefusal.{step-counts}
-use Rattle.step_work.proofs.StepWorked.{refused-worked, step-refused, drawn-refused, heated-refused, close-refused, step-accepted}
+use Rattle.step_work.proofs.StepWorked.{zeros-unheated, refused-worked, step-refused, drawn-refused, heated-refused, close-refused, step-accepted}
 use borrow.Author.Needs.{needs}
 use Rattle.step_work.proofs.work.work_step.Statement.{statement}
 use Rattle.step_work.proofs.work.work_step.Tie as tie

@@ -1,6 +1,6 @@
 -- `StorageTank::demand_hot_water`, the call step, meets its contract (01, The four calls; Step): the arrays hold the tank and the step, whose work decides.
 use mathlib.Core.Path.{refl}
-use Rattle.step_work.proofs.LentArrays.{step-back}
+use Rattle.tank_arrays.proofs.LentArrays.{step-back}
 use Rattle.step_work.proofs.StepWorked.{worked-for}
 use Rattle.storage_tank.proofs.Answers.{fixed-back, step-refuses, step-accepts}
 use borrow.Author.Needs.{needs}

@@ -8,10 +8,10 @@ use lib.Dec.{ltb}
 use lib.ListN.{getD, replicate}
 use Rattle.numeric.specs.Tabulate.{tabulate}
 use Rattle.numeric.specs.Copy.{copied}
+use Rattle.numeric.proofs.Filling.{tabulated-turn, tabulated-end}
 use Rattle.working_order.specs.Order.{maxHeaters}
 use Rattle.tank_model.specs.declared.Heater.{Heater}
 use Rattle.tank_model.specs.Fixed.{noHeater}
-use Rattle.step_work.proofs.Filling.{tabulated-turn, tabulated-end}
 use Rattle.storage_tank.specs.Calls.{zeroHeater, cleanHeater, fittedHeaters}
 use borrow.Author.Needs.{needs}
 use Rattle.storage_tank.proofs.make.fitted_heaters.Statement.{statement}

@@ -6,8 +6,8 @@ use lib.ListN.{replicate}
 use lib.Ieee.{nan}
 use Rattle.numeric.specs.Double.{zero-f}
 use Rattle.numeric.specs.Copy.{copied}
+use Rattle.numeric.proofs.Filling.{take-replicate, filled-turn}
 use Rattle.mixing.specs.Limits.{maxLayers}
-use Rattle.step_work.proofs.Filling.{take-replicate, filled-turn}
 use borrow.Author.Needs.{needs}
 use Rattle.storage_tank.proofs.make.initial_temps.Statement.{statement}
 use Rattle.storage_tank.proofs.make.initial_temps.Tie as tie

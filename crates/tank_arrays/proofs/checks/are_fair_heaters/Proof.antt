@@ -1,0 +1,67 @@
+-- `are_fair_heaters` meets its contract. The loop's invariant: each place passed is fair.
+use mathlib.Core.Path.{sym, _∙_}
+use mathlib.Core.Bool.{Bool}
+use mathlib.Core.List.{List}
+use Prim.Native.Nat.{ℕ, _-_}
+use lib.ListN.{getD}
+use lib.Ieee.{Float}
+use borrow.Author.Tests.{not-true, not-false}
+use Rattle.numeric.specs.Holds.{Passed, passed-start, passed-turn, passed-fails, passed-end}
+use Rattle.tank_model.specs.Fixed.{placed, noHeater}
+use Rattle.tank_model.specs.Checks.{fairHeater}
+use Rattle.tank_arrays.specs.Arrays.{fittedIn}
+use borrow.Author.Needs.{needs}
+use Rattle.tank_arrays.proofs.checks.are_fair_heaters.Statement.{statement}
+use Rattle.tank_arrays.proofs.checks.are_fair_heaters.Tie as tie
+
+abbrev fairAt : List Float → List Bool → ℕ → Bool
+fairAt heaters thermostats h = fairHeater (placed (getD (fittedIn heaters thermostats) h noHeater))
+
+abbrev Inv-loop : tie.InvT-loop
+Inv-loop n heaters thermostats h₀ h = Passed (fairAt heaters thermostats) n h
+
+abbrev μ-loop : tie.MeasureT-loop
+μ-loop n heaters thermostats h₀ h = n - h
+
+loop-holds : tie.Need-loop-holds Inv-loop μ-loop
+loop-holds c = passed-start _ _
+
+heater-at-requires : tie.Need-heater-at-requires Inv-loop μ-loop
+heater-at-requires c κs = search needs
+
+is-fair-heater-requires : tie.Need-is-fair-heater-requires Inv-loop μ-loop
+is-fair-heater-requires c κs = search needs
+
+returns : tie.Need-returns Inv-loop μ-loop
+returns c =
+    let test = c .before .before .before in
+    passed-fails _ _ _ (test .loop-test .taken) (sym (rw (c .before .before .heater-at .ensures) at (c .before .is-fair-heater .ensures)) ∙ not-true _ (c .if1 .taken)) (test .before .loop .inv)
+
+add-h : tie.Need-add-h Inv-loop μ-loop
+add-h c = search needs
+
+loop-less : tie.Need-loop-less Inv-loop μ-loop
+loop-less c = search needs
+
+loop-again : tie.Need-loop-again Inv-loop μ-loop
+loop-again c =
+    let test = c .before .before .before in
+    passed-turn _ _ _ (test .loop-test .taken) (sym (rw (c .before .before .heater-at .ensures) at (c .before .is-fair-heater .ensures)) ∙ not-false _ (c .if1 .left)) (test .before .loop .inv)
+
+returns-2 : tie.Need-returns-2 Inv-loop μ-loop
+returns-2 c = passed-end _ _ _ (c .loop-test .left) (c .before .loop .inv)
+
+pub are-fair-heaters-spec : {M : Type 1} → statement M
+are-fair-heaters-spec =
+    tie.close
+    (tie.spec
+    Inv-loop
+    μ-loop
+    loop-holds
+    heater-at-requires
+    is-fair-heater-requires
+    returns
+    add-h
+    loop-less
+    loop-again
+    returns-2)
