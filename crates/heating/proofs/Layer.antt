@@ -7,13 +7,17 @@ use lib.Ieee.{Float, nan}
 use Rattle.numeric.specs.Double.{_⊕_}
 use Rattle.cylinder.specs.declared.Cylinder.{Cylinder}
 use Rattle.heating.specs.declared.SetPoints.{SetPoints}
-use Rattle.heating.specs.Losses.{clearlyAbove, warmed, countedTemp, standingLoss, loss, limitedTemp}
-use Rattle.heating.specs.Layer.{layerLoss, layerTemp}
+use Rattle.heating.specs.Losses.{clearlyAbove, warmed, countedTemp, standingLoss, loss, limitedTemp, surplusTerm}
+use Rattle.heating.specs.Layer.{layerLoss, layerTemp, layerSurplus}
 
 module _ (c : Cylinder) (vol : List Float) (p : SetPoints) (before mixed charged : List Float) (k : ℕ) where
   pub loss-here : layerLoss c p (getD vol k nan) (clearlyAbove (getD mixed k nan) (getD before k nan)) (getD mixed k nan) (getD charged k nan) ≡ loss c vol p before mixed charged k
   unfolding loss standingLoss countedTemp warmed layerLoss
   loss-here = refl
+
+  pub surplus-here : layerSurplus c p (getD vol k nan) (clearlyAbove (getD mixed k nan) (getD before k nan)) (getD mixed k nan) (getD charged k nan) ≡ surplusTerm c vol p before mixed charged k
+  unfolding surplusTerm layerSurplus
+  surplus-here = rw loss-here
 
   -- t and q are what the layer k and its charge hold, wherever they stand
   module _ (t q : Float) (e : t ≡ getD mixed k nan) (g : q ≡ getD charged k nan) where

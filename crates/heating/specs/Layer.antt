@@ -1,4 +1,4 @@
--- States what one layer loses and where it ends (01, Losses and limit) by what stands at that layer alone: its volume v, whether it is warmed, its temperature t
+-- States what one layer loses, where it ends and what it has over the set point (01, Losses and limit) by what stands at that layer alone: its volume v, whether it is warmed, its temperature t
 -- after the mixing, and what earlier heaters charged it this step. proofs/Layer.antt shows that this is what Losses states of it.
 use mathlib.Core.Bool.{Bool, cond, _&&_}
 use lib.Ieee.{Float}
@@ -17,6 +17,9 @@ module _ (c : Cylinder) (p : SetPoints) (v : Float) (warmed : Bool) (t earlier :
 
   unfoldable pub layerTemp : Float
   layerTemp = cond (warmed && overUpper p t) (upperOf p) (t ⊖ layerLoss ⊘ (c .rho ⊛ c .cp ⊛ v))
+
+  unfoldable pub layerSurplus : Float
+  layerSurplus = c .rho ⊛ c .cp ⊛ v ⊛ t ⊖ layerLoss ⊖ c .rho ⊛ c .cp ⊛ v ⊛ upperOf p
 
   abbrev pub layerAfter : LayerAfter
   layerAfter = record { lost = layerLoss; temp = layerTemp }

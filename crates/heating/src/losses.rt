@@ -10,7 +10,7 @@ ghost use Rattle.numeric.specs.Compare.{minOf2};
 ghost use Rattle.mixing.specs.Limits.{maxLayers};
 ghost use Rattle.heating.specs.Switch.{hasUpper, upperOf};
 ghost use Rattle.heating.specs.Losses.{clearlyAbove, overUpper, standbyCoefficient, losses, tempsAfter, chargedAfter, surplusTerm, surplus, adjusted};
-ghost use Rattle.heating.specs.Layer.{layerLoss, layerAfter};
+ghost use Rattle.heating.specs.Layer.{layerLoss, layerAfter, layerSurplus};
 use crate::SetPoints;
 use cylinder::Cylinder;
 use mixing::limits::MAX_LAYERS;
@@ -106,7 +106,16 @@ fn layer_after(c: Cylinder, v: f64, p: SetPoints, before: f64, t: f64, earlier: 
     after_loss(c, v, p, false, t, earlier)
 }
 
-// Heat less loss less heat at the set point, added plainly from the heater's layer up.
+// Of a layer that was at `before` when the turn began: its heat less its loss less its heat at the set point.
+fn layer_surplus(c: Cylinder, v: f64, p: SetPoints, before: f64, t: f64, earlier: f64) -> f64
+    ensures { λ r. ⌜ r ≡ layerSurplus c p v (clearlyAbove t before) t earlier ⌝ }
+{
+    let warmed = is_clearly_above(t, before);
+    let lost = thermal_loss(c, v, p, warmed, t, earlier);
+    c.rho * c.cp * v * t - lost - c.rho * c.cp * v * crate::switch::upper_of(p)
+}
+
+// Added plainly from the heater's layer up.
 fn sum_surplus(
     c: Cylinder,
     vol: &[f64; MAX_LAYERS],
@@ -120,13 +129,10 @@ fn sum_surplus(
     ensures { λ r. ⌜ r ≡ turns (λ (k : ℕ) (s : Float). s ⊕ surplusTerm c (now (vol .entry)) p (now (before .entry)) (now (mixed .entry)) (now (charged .entry)) k) (c .layers - layer) layer zero-f ⌝ }
 {
     let n = c.layers;
-    let upper = crate::switch::upper_of(p);
     let mut s = 0.0;
     let mut k = layer;
     while k < n {
-        let warmed = is_clearly_above(mixed[k], before[k]);
-        let lost = thermal_loss(c, vol[k], p, warmed, mixed[k], charged[k]);
-        s = s + (c.rho * c.cp * vol[k] * mixed[k] - lost - c.rho * c.cp * vol[k] * upper);
+        s = s + layer_surplus(c, vol[k], p, before[k], mixed[k], charged[k]);
         k += 1;
     }
     s

@@ -1,0 +1,21 @@
+-- `losses::layer_surplus` meets its contract.
+use Rattle.heating.specs.Layer.{layerSurplus}
+use borrow.Author.Needs.{needs}
+use Rattle.heating.proofs.losses.layer_surplus.Statement.{statement}
+use Rattle.heating.proofs.losses.layer_surplus.Tie as tie
+
+is-clearly-above-requires : tie.Need-is-clearly-above-requires
+is-clearly-above-requires c κs = search needs
+
+thermal-loss-requires : tie.Need-thermal-loss-requires
+thermal-loss-requires c κs = search needs
+
+upper-of-requires : tie.Need-upper-of-requires
+upper-of-requires c κs = search needs
+
+returns : tie.Need-returns
+unfolding layerSurplus
+returns c = rw (c .upper-of .ensures, c .before .before .before .thermal-loss .ensures, c .before .before .before .before .is-clearly-above .ensures)
+
+pub layer-surplus-spec : {M : Type 1} → statement M
+layer-surplus-spec = tie.close (tie.spec is-clearly-above-requires thermal-loss-requires upper-of-requires returns)
