@@ -1,4 +1,4 @@
--- Proves that what a layer loses, and where it ends, is stated by what stands at that layer alone (01, Losses and limit): so the losses can be worked in place.
+-- Proves that what a layer loses, where it ends and what it has over the set point is stated by what stands at that layer alone (01, Losses and limit): so the losses can be worked in place.
 use mathlib.Core.Path.{_≡_, refl}
 use mathlib.Core.List.{List}
 use Prim.Native.Nat.{ℕ}
