@@ -13,18 +13,12 @@ use lib.Ieee.{Float, nan, le}
 use lib.ListN.{getD}
 use Rattle.numeric.specs.Holds.{holds-at}
 use Rattle.mixing.specs.Limits.{maxRounds}
-use Rattle.mixing.specs.Round.{oneRound}
-use Rattle.mixing.specs.Rearrange.{Mixing, sorted, unsorted, rises, isSorted, rounds, rearrange}
+use Rattle.mixing.specs.Rearrange.{Mixing, sorted, unsorted, rises, isSorted, afterRounds, rounds, rearrange}
 use Rattle.mixing.proofs.Rounds.{rounds-sorted}
 
 -- 01's number: of at most 32 layers a mixing may run 64 rounds
 pub limit-64 : (n : ℕ) → n ≤ 32 → maxRounds n ≡ 64
 limit-64 n h = refl
-
--- the layers after k rounds, in order or not
-unfoldable pub afterRounds : ℕ → ℕ → List Float → List Float → List Float
-afterRounds zero n vol temps = temps
-afterRounds (suc k) n vol temps = oneRound n vol (afterRounds k n vol temps)
 
 -- k is the least round from 1 on after which the layers are in order, it may run, and `us` are the layers it leaves
 pub record LeastRound (n : ℕ) (vol temps us : List Float) (k : ℕ) : Type 0 where

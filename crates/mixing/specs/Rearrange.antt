@@ -22,6 +22,11 @@ pub data Mixing : Type 0 where
   sorted : List Float → ℕ → Mixing
   unsorted : Mixing
 
+-- the layers after k rounds, in order or not
+unfoldable pub afterRounds : ℕ → ℕ → List Float → List Float → List Float
+afterRounds zero n vol temps = temps
+afterRounds (suc k) n vol temps = oneRound n vol (afterRounds k n vol temps)
+
 -- k rounds have run and left `temps`, in order or not as b says; `left` more may run
 unfoldable pub rounds : ℕ → Bool → ℕ → ℕ → List Float → List Float → Mixing
 rounds zero true k n vol temps = sorted temps k

@@ -58,6 +58,18 @@ module _ (p : ℕ → Bool) where
   at-holds zero i h = refl
   at-holds (suc k) i h = rw (h i (omega arith) (omega arith)) (at-holds k (i + 1) (λ j l u. h j (omega arith) (omega arith)))
 
+  -- where the whole does not hold, one place does not
+  pub holds-fails : (k i : ℕ) → holds k i ≡ false → (j : ℕ) × (i ≤ j) × (j < i + k) × (p j ≡ false)
+  unfolding holds
+  holds-fails zero i h = absurd (true≢false h)
+  holds-fails (suc k) i h = go (p i) refl h (holds-fails k (i + 1))
+    where
+      go : (b : Bool) → p i ≡ b → (b && holds k (i + 1)) ≡ false
+          → (holds k (i + 1) ≡ false → (j : ℕ) × (i + 1 ≤ j) × (j < i + 1 + k) × (p j ≡ false))
+          → (j : ℕ) × (i ≤ j) × (j < i + suc k) × (p j ≡ false)
+      go false e f rest = (i, omega arith, omega arith, e)
+      go true e f rest = let r = rest f in (r .0, omega (arith, r .1), omega (arith, r .2), r .3)
+
   -- the places in two parts
   pub holds-split : (k l i : ℕ) → holds (k + l) i ≡ (holds k i && holds l (i + k))
   unfolding holds

@@ -1,49 +1,69 @@
 -- Proves that a step's work takes the course that demand 3 states (01, Step; Turn).
-use mathlib.Core.Path.{_≡_, refl, sym, ap, _∙_}
-use mathlib.Core.Logic.{inl, inr, _≢_}
+use mathlib.Core.Path.{_≡_, refl, sym, ap, _∙_, subst}
+use mathlib.Core.Logic.{inl, inr, ⊎-elim, _≢_}
 use mathlib.Core.List.{List, [], _∷_, append-nil}
-use mathlib.Core.Bool.{Bool, true, false, not}
-use Prim.Native.Nat.{ℕ, zero, suc, _<_}
+use mathlib.Core.Bool.{Bool, true, false}
+use Prim.Native.Nat.{ℕ, zero, suc, _<_, _≤_}
 use native.Mathlib.Omega.{arith}
-use lib.Dec.{T}
-use lib.ListN.{getD}
+use lib.Dec.{T, leb→le}
+use lib.ListN.{length, getD, length-set}
 use lib.Seq.{getD-set-other}
 use lib.Ieee.{Float}
-use Rattle.mixing.specs.Rearrange.{rearrange}
-use Rattle.cylinder.specs.Layers.{layerVolumes}
-use Rattle.draw_off.specs.Event.{Event, unmixed, mixed, eventMixing, eventOf}
+use Rattle.mixing.specs.Rearrange.{Mixing, rearrange}
+use Rattle.cylinder.specs.Layers.{layerVolume, layerVolumes, allFinite}
+use Rattle.draw_off.specs.Event.{Event, unmixed, mixed, eventMixing, eventOf, eventNumber}
+use Rattle.heating.specs.Turn.{turnNumber}
+use Rattle.working_order.specs.Order.{maxHeaters}
 use Rattle.tank_model.specs.declared.TankDesign.{TankDesign}
 use Rattle.tank_model.specs.declared.Step.{Step}
 use Rattle.tank_model.specs.Fixed.{State, fixedOf}
 use Rattle.tank_model.specs.Order.{workingOrder}
-use Rattle.tank_model.specs.Checks.{stepRefusal}
+use Rattle.tank_model.specs.Checks.{stepChecks, stepRefusal}
 use Rattle.tank_model.specs.Work.{Progress, Turn, End, refused, done, Work, resume, andThen, endBy, event, events, wantedVolumes, withAverage, afterEvent, turnOf, afterTurn, heaterTurn, turns, allTurns, opening, closed, closing, begin, work}
 use Rattle.tank_model.specs.Members.{All, Distinct}
-use Rattle.tank_model.specs.Course.{cylinderOf, EventOf, TurnOf, eventNext, eventEnds, turnNext, turnEnds, Ran, Events, Course}
+use Rattle.tank_model.specs.Arguments.{cylinderOf, volumesOf}
+use Rattle.tank_model.specs.Course.{MixingOf, EventOf, EventDraws, EventPart, TurnDraws, TurnPart, InSequence, Averages, Closes, Turns, EventsThenTurns, Course}
 use Rattle.tank_model.proofs.Members.{all-map, all-both}
 use Rattle.tank_model.proofs.Order.{heaters-many, order-below, order-once}
+use Rattle.tank_model.proofs.Mixings.{mixing-of}
 use Rattle.tank_model.proofs.Steps.{Reach, end-reach}
 use Rattle.tank_model.proofs.TurnFacts.{turn-of}
+use Rattle.tank_model.proofs.Works.{tank-passes}
+use Rattle.tank_model.proofs.Refusals.{step-refused-as}
+use Rattle.tank_model.proofs.Parts.{event-leaves, event-draws, turn-leaves, turn-draws, opens, averages, closes}
 
--- ---- a deed, and then the others if it does not end the step
+-- ---- parts of the work in a row
 
-event-first : (Of : Float → Progress → Event → Type 0) (next : Progress → Event → Progress) (number : Progress → Event → ℕ) (v : Float) (vs : List Float) (s : Progress) (d : Event) (f : Progress → Work)
-    → Of v s d → Ran Of next number (next s d) vs (f (next s d) .events) (f (next s d) .end)
-    → let e = endBy (number s d) (next s d) in Ran Of next number s (v ∷ vs) (resume (d ∷ []) [] e f .events) (resume (d ∷ []) [] e f .end)
-event-first Of next number v vs s d f o r = go (number s d) refl
-  where
-    go : (n : ℕ) → number s d ≡ n → Ran Of next number s (v ∷ vs) (resume (d ∷ []) [] (endBy n (next s d)) f .events) (resume (d ∷ []) [] (endBy n (next s d)) f .end)
-    go zero q = unfold endBy resume in (o, inl (q, r))
-    go (suc n) q = unfold endBy resume in (o, inr (omega (arith, q), ap refused (sym q), refl))
+module _ {K P : Type 0} (Part : K → Progress → P → Progress → Type 0) (Draws : P → Progress → ℕ → Type 0) where
+  -- the parts from s, up to the end e
+  abbrev RanTo : Progress → List K → List P → End → Type 0
+  RanTo s ks ps e = InSequence Part Draws (λ (x : Progress). e ≡ done x) (λ (n : ℕ). e ≡ refused n) s ks ps
 
-turn-first : (Of : ℕ → Progress → Turn → Type 0) (next : Progress → Turn → Progress) (number : Progress → Turn → ℕ) (h : ℕ) (hs : List ℕ) (s : Progress) (d : Turn) (f : Progress → Work)
-    → Of h s d → Ran Of next number (next s d) hs (f (next s d) .turns) (f (next s d) .end)
-    → let e = endBy (number s d) (next s d) in Ran Of next number s (h ∷ hs) (resume [] (d ∷ []) e f .turns) (resume [] (d ∷ []) e f .end)
-turn-first Of next number h hs s d f o r = go (number s d) refl
-  where
-    go : (n : ℕ) → number s d ≡ n → Ran Of next number s (h ∷ hs) (resume [] (d ∷ []) (endBy n (next s d)) f .turns) (resume [] (d ∷ []) (endBy n (next s d)) f .end)
-    go zero q = unfold endBy resume in (o, inl (q, r))
-    go (suc n) q = unfold endBy resume in (o, inr (omega (arith, q), ap refused (sym q), refl))
+  -- what comes after them, in other words
+  ran-map : (Then Then' : Progress → Type 0) (Stopped Stopped' : ℕ → Type 0) → ((x : Progress) → Then x → Then' x) → ((n : ℕ) → Stopped n → Stopped' n)
+      → (ks : List K) (ps : List P) (s : Progress) → InSequence Part Draws Then Stopped s ks ps → InSequence Part Draws Then' Stopped' s ks ps
+  ran-map A B S S' f g [] [] s r = f s r
+  ran-map A B S S' f g [] (p ∷ ps) s r = absurd r
+  ran-map A B S S' f g (k ∷ ks) [] s r = absurd r
+  ran-map A B S S' f g (k ∷ ks) (p ∷ ps) s r = (
+    r .0,
+    r .1,
+    ⊎-elim (λ x. inl (x .0, ran-map A B S S' f g ks ps (r .0) (x .1))) (λ x. inr (x .0, x .1, x .2, g (x .0) (x .3), x .4)) (r .2),
+  )
+
+event-first : (Part : Float → Progress → Event → Progress → Type 0) (Draws : Event → Progress → ℕ → Type 0) (v : Float) (vs : List Float) (s : Progress) (d : Event) (s' : Progress) (f : Progress → Work) (n : ℕ)
+    → Part v s d s' → Draws d s' n → RanTo Part Draws s' vs (f s' .events) (f s' .end)
+    → RanTo Part Draws s (v ∷ vs) (resume (d ∷ []) [] (endBy n s') f .events) (resume (d ∷ []) [] (endBy n s') f .end)
+unfolding endBy resume
+event-first Part Draws v vs s d s' f zero o q r = (s', o, inl (q, r))
+event-first Part Draws v vs s d s' f (suc n) o q r = (s', o, inr (suc n, omega arith, q, refl, refl))
+
+turn-first : (Part : ℕ → Progress → Turn → Progress → Type 0) (Draws : Turn → Progress → ℕ → Type 0) (h : ℕ) (hs : List ℕ) (s : Progress) (d : Turn) (s' : Progress) (f : Progress → Work) (n : ℕ)
+    → Part h s d s' → Draws d s' n → RanTo Part Draws s' hs (f s' .turns) (f s' .end)
+    → RanTo Part Draws s (h ∷ hs) (resume [] (d ∷ []) (endBy n s') f .turns) (resume [] (d ∷ []) (endBy n s') f .end)
+unfolding endBy resume
+turn-first Part Draws h hs s d s' f zero o q r = (s', o, inl (q, r))
+turn-first Part Draws h hs s d s' f (suc n) o q r = (s', o, inr (suc n, omega arith, q, refl, refl))
 
 no-turns : (es : List Event) (us : List Turn) (e : End) (f : Progress → Work) → us ≡ [] → ((s : Progress) → f s .turns ≡ []) → resume es us e f .turns ≡ []
 unfolding resume
@@ -66,42 +86,46 @@ module _ (m : TankDesign) (a : Step) where
   abbrev drawnBy : List Float → Progress → Work
   drawnBy vs s = events (cylinderOf m) (a .feed) vs s
 
-  mixing-mixed : (b : Bool) (temps : List Float) → T b → eventMixing b (cylinderOf m) temps ≡ mixed (rearrange (m .layers) (layerVolumes (cylinderOf m)) temps)
-  unfolding eventMixing
-  mixing-mixed true temps t = refl
+  mixing-mixed : (b : Bool) (temps : List Float) → T b → (x : Mixing) × (eventMixing b (cylinderOf m) temps ≡ mixed x) × MixingOf (m .layers) (volumesOf m) temps x
+  unfolding eventMixing layerVolumes layerVolume
+  mixing-mixed true temps t = (rearrange (m .layers) (volumesOf m) temps, refl, mixing-of (m .layers) (volumesOf m) temps)
   mixing-mixed false temps t = absurd t
 
-  mixing-unmixed : (b : Bool) (temps : List Float) → T (not b) → eventMixing b (cylinderOf m) temps ≡ unmixed
+  mixing-unmixed : (b : Bool) (temps : List Float) → ¬ (T b) → eventMixing b (cylinderOf m) temps ≡ unmixed
   unfolding eventMixing
-  mixing-unmixed true temps t = absurd t
-  mixing-unmixed false temps t = refl
+  mixing-unmixed true temps n = absurd (n tt)
+  mixing-unmixed false temps n = refl
 
   event-of : (v : Float) (s : Progress) → EventOf m (a .feed) v s (eventOf (cylinderOf m) (a .feed) v (s .temps) (s .totals))
-  unfolding eventOf
+  unfolding eventOf layerVolumes layerVolume
   event-of v s = record { wanted = refl; before = refl; draw = refl; refill = refl; mixing = mixing-mixed _ _; no-mixing = mixing-unmixed _ _ }
 
-  events-ran : (vs : List Float) (s : Progress) → Ran (EventOf m (a .feed)) (eventNext m) (eventEnds m) s vs (drawnBy vs s .events) (drawnBy vs s .end)
+  events-ran : (vs : List Float) (s : Progress) → RanTo (EventPart m a) (EventDraws m) s vs (drawnBy vs s .events) (drawnBy vs s .end)
   unfolding events andThen event
   events-ran [] s = refl
   events-ran (v ∷ vs) s =
       let e = eventOf (cylinderOf m) (a .feed) v (s .temps) (s .totals) in
-      event-first (EventOf m (a .feed)) (eventNext m) (eventEnds m) v vs s e (λ s'. drawnBy vs s') (event-of v s) (events-ran vs (eventNext m s e))
+      let s' = afterEvent (cylinderOf m) e s in
+      event-first (EventPart m a) (EventDraws m) v vs s e s' (λ x. drawnBy vs x) (eventNumber (cylinderOf m) e (s .totals)) (event-of v s, event-leaves m e s) (event-draws m e s) (events-ran vs s')
 
   events-turnless : (vs : List Float) (s : Progress) → drawnBy vs s .turns ≡ []
   unfolding events andThen event
   events-turnless [] s = refl
   events-turnless (v ∷ vs) s = no-turns _ _ _ _ refl (λ s'. events-turnless vs s')
 
-  event-flags : (e : Event) (s : Progress) → afterEvent (cylinderOf m) e s .flags ≡ s .flags
-  unfolding afterEvent
-  event-flags e s = refl
+  -- flags and lines as they were
+  abbrev Kept : State → Progress → Type 0
+  Kept st s = (s .flags ≡ st .flags) × (length (s .lines) ≡ maxHeaters)
 
-  events-flags : (fs : List Bool) (vs : List Float) (s : Progress) → s .flags ≡ fs → Reach (λ (s' : Progress). s' .flags ≡ fs) (drawnBy vs s .end)
+  event-kept : (e : Event) (st : State) (s : Progress) → Kept st s → Kept st (afterEvent (cylinderOf m) e s)
+  unfolding afterEvent
+  event-kept e st s q = q
+
+  events-kept : (st : State) (vs : List Float) (s : Progress) → Kept st s → Reach (Kept st) (drawnBy vs s .end)
   unfolding events andThen event
-  events-flags fs [] s q = q
-  events-flags fs (v ∷ vs) s q =
-      then-reach (λ (s' : Progress). s' .flags ≡ fs) (λ (s' : Progress). s' .flags ≡ fs) _ _ _ _
-      (end-reach (λ (s' : Progress). s' .flags ≡ fs) _ _ (λ z. event-flags _ s ∙ q)) (λ s' q'. events-flags fs vs s' q')
+  events-kept st [] s q = q
+  events-kept st (v ∷ vs) s q =
+      then-reach (Kept st) (Kept st) _ _ _ _ (end-reach (Kept st) _ _ (λ z. event-kept _ st s q)) (λ s' q'. events-kept st vs s' q')
 
   -- ---- the turns
 
@@ -120,13 +144,33 @@ module _ (m : TankDesign) (a : Step) where
       (λ k r. getD-set-other (s .flags) h k _ false (λ e. r .0 (sym e)) ∙ r .1) hs
       (all-both (λ (k : ℕ). h ≢ k) (λ (k : ℕ). getD (s .flags) k false ≡ getD fs k false) hs d q)
 
-  turns-ran : (fs : List Bool) (hs : List ℕ) (s : Progress) → All (λ (h : ℕ). h < m .heaters) hs → Distinct hs → Same fs s hs
-      → Ran (TurnOf m a fs) turnNext (turnEnds m) s hs (turns (fixedOf m) a hs s .turns) (turns (fixedOf m) a hs s .end)
+  -- a place for each flag and for each line
+  abbrev Places : Progress → Type 0
+  Places s = (length (s .flags) ≡ maxHeaters) × (length (s .lines) ≡ maxHeaters)
+
+  places-after : (u : Turn) (s : Progress) → Places s → Places (afterTurn u s)
+  unfolding afterTurn
+  places-after u s p = (length-set (s .flags) (u .heater) _ ∙ p .0, length-set (s .lines) (u .heater) _ ∙ p .1)
+
+  turn-heater : (h : ℕ) (s : Progress) → turnOf (fixedOf m) a h s .heater ≡ h
+  unfolding turnOf
+  turn-heater h s = refl
+
+  abbrev drawsOf : Turn → Progress → ℕ → Type 0
+  drawsOf u x = TurnDraws m u
+
+  turns-ran : m .heaters ≤ maxHeaters → (fs : List Bool) (hs : List ℕ) (s : Progress) → All (λ (h : ℕ). h < m .heaters) hs → Distinct hs → Same fs s hs → Places s
+      → RanTo (TurnPart m a fs) drawsOf s hs (turns (fixedOf m) a hs s .turns) (turns (fixedOf m) a hs s .end)
   unfolding turns andThen heaterTurn
-  turns-ran fs [] s l d q = refl
-  turns-ran fs (h ∷ hs) s l d q =
+  turns-ran b fs [] s l d q p = refl
+  turns-ran b fs (h ∷ hs) s l d q p =
       let u = turnOf (fixedOf m) a h s in
-      turn-first (TurnOf m a fs) turnNext (turnEnds m) h hs s u (λ s'. turns (fixedOf m) a hs s') (turn-of m a fs h s (l .0) (q .0)) (turns-ran fs hs (afterTurn u s) (l .1) (d .1) (same-after fs h hs s (d .0) (q .1)))
+      let s' = afterTurn u s in
+      let j : h < maxHeaters = omega (arith, b, l .0) in
+      let i : u .heater < length (s .flags) = rw (turn-heater h s, p .0) j in
+      let k : u .heater < length (s .lines) = rw (turn-heater h s, p .1) j in
+      turn-first (TurnPart m a fs) drawsOf h hs s u s' (λ x. turns (fixedOf m) a hs x) (turnNumber (cylinderOf m) (u .turned)) (turn-of m a fs h s (l .0) (q .0), turn-leaves u s i k) (turn-draws m u)
+      (turns-ran b fs hs s' (l .1) (d .1) (same-after fs h hs s (d .0) (q .1)) (places-after u s p))
 
   turns-eventless : (hs : List ℕ) (s : Progress) → turns (fixedOf m) a hs s .events ≡ []
   unfolding turns andThen heaterTurn
@@ -138,30 +182,57 @@ module _ (m : TankDesign) (a : Step) where
 
   -- ---- the step
 
-  pub work-course : (st : State) → Course m st a (work (fixedOf m) st a)
+  closed-refused : (e : End) (n : ℕ) → e ≡ refused n → closed e ≡ refused n
+  unfolding closed
+  closed-refused e n q = rw q
+
+  closed-done : (e : End) (x : Progress) → e ≡ done x → Closes (closed e) x
+  closed-done e x q = rw q (closes x)
+
+  not-done : (n : ℕ) (s : Progress) → refused n ≡ done s → ⊥
+  not-done n s h = let z : _≡_ {A = ℕ} 0 1 = cc in omega arith
+
+  abbrev reached : Progress → End → Progress
+  reached s (refused n) = s
+  reached s (done x) = x
+
+  few-heaters : (st : State) → stepRefusal (fixedOf m) st a ≡ 0 → m .heaters ≤ maxHeaters
+  unfolding stepRefusal
+  few-heaters st l = subst (λ (k : ℕ). k ≤ maxHeaters) (heaters-many m) (leb→le _ maxHeaters (tank-passes (fixedOf m) (allFinite (m .layers) (st .temps)) (stepChecks (fixedOf m) a) l .heaters))
+
+  pub work-course : (st : State) → length (st .flags) ≡ maxHeaters → Course m st a (work (fixedOf m) st a)
   unfolding work
-  work-course st = go (stepRefusal (fixedOf m) st a) refl
+  work-course st long = go (stepRefusal (fixedOf m) st a) refl
     where
-      then-turns : stepRefusal (fixedOf m) st a ≡ 0 → (es : List Event) (us : List Turn) (e : End) → Events m a (opening st) es e → us ≡ [] → Reach (λ (s : Progress). s .flags ≡ st .flags) e
-          → Course m st a (closing (resume es us e (λ s. allTurns (fixedOf m) a s)))
-      then-turns z es us (refused n) r u q = unfold resume closed in (inr (inl (z, tt, r, u)))
-      then-turns z es us (done s) r u q = unfold resume in (
-          let s' = withAverage (cylinderOf m) s in
-          inr (inr (
-            z,
-            (
-              s,
-              rw (turns-eventless (workingOrder (fixedOf m)) s', append-nil) r,
-              (
-                turns (fixedOf m) a (workingOrder (fixedOf m)) s' .end,
-                rw u (turns-ran (st .flags) (workingOrder (fixedOf m)) s' order-in (order-once (fixedOf m)) (all-same (st .flags) s' (workingOrder (fixedOf m)) (unfold withAverage in q))),
-                refl,
-              ),
-            ),
-          )))
+      order : List ℕ
+      order = workingOrder (fixedOf m)
+
+      turned : m .heaters ≤ maxHeaters → (x : Progress) → Kept st x
+          → let w = turns (fixedOf m) a order (withAverage (cylinderOf m) x) in
+          Turns m a (st .flags) (withAverage (cylinderOf m) x) (w .turns) (closed (w .end))
+      turned b x q =
+          let x' = withAverage (cylinderOf m) x in
+          let w = turns (fixedOf m) a order x' in
+          let f : x' .flags ≡ st .flags = unfold withAverage in (q .0) in
+          let p : Places x' = unfold withAverage in (rw (q .0) long, q .1) in
+          ran-map (TurnPart m a (st .flags)) drawsOf (λ (y : Progress). w .end ≡ done y) (Closes (closed (w .end))) (λ (n : ℕ). w .end ≡ refused n) (λ (n : ℕ). closed (w .end) ≡ refused n)
+          (λ y e. closed-done (w .end) y e) (λ n e. closed-refused (w .end) n e) order (w .turns) x'
+          (turns-ran b (st .flags) order x' order-in (order-once (fixedOf m)) (all-same (st .flags) x' order f) p)
+
+      then-turns : m .heaters ≤ maxHeaters → (es : List Event) (us : List Turn) (e : End) → RanTo (EventPart m a) (EventDraws m) (opening st) (wantedVolumes a) es e → us ≡ [] → Reach (Kept st) e
+          → EventsThenTurns m a (st .flags) (opening st) (closing (resume es us e (λ s. allTurns (fixedOf m) a s)))
+      then-turns b es us (refused n) r u q = unfold resume closed in (
+          ran-map (EventPart m a) (EventDraws m) (λ (x : Progress). refused n ≡ done x) _ (λ (k : ℕ). refused n ≡ refused k) _ (λ x z. absurd (not-done n x z)) (λ k z. (z, u)) (wantedVolumes a) es (opening st) r)
+      then-turns b es us (done s) r u q = unfold resume in (
+          let x' = withAverage (cylinderOf m) s in
+          rw (turns-eventless order x', append-nil, u) (
+          ran-map (EventPart m a) (EventDraws m) (λ (x : Progress). done s ≡ done x) _ (λ (k : ℕ). done s ≡ refused k) _
+          (λ x z. subst (λ (y : Progress). (y' : Progress) × Averages m y y' × Turns m a (st .flags) y' (turns (fixedOf m) a order x' .turns) (closed (turns (fixedOf m) a order x' .end))) (ap (reached s) z) (x', averages m s, turned b s q))
+          (λ k z. absurd (not-done k s (sym z))) (wantedVolumes a) es (opening st) r))
 
       go : (n : ℕ) → stepRefusal (fixedOf m) st a ≡ n → Course m st a (begin (fixedOf m) st a n)
-      go (suc n) l = unfold begin in (rw l (inl (omega arith, refl)))
+      go (suc n) l = unfold begin in (inl (suc n, omega arith, step-refused-as m st a (suc n) .0 l, refl, refl, refl))
       go zero l = unfold begin andThen in (
           let w = drawnBy (wantedVolumes a) (opening st) in
-          then-turns l (w .events) (w .turns) (w .end) (events-ran (wantedVolumes a) (opening st)) (events-turnless (wantedVolumes a) (opening st)) (events-flags (st .flags) (wantedVolumes a) (opening st) (unfold opening in refl)))
+          inr (step-refused-as m st a 0 .0 l, (opening st, opens st,
+          then-turns (few-heaters st l) (w .events) (w .turns) (w .end) (events-ran (wantedVolumes a) (opening st)) (events-turnless (wantedVolumes a) (opening st)) (events-kept st (wantedVolumes a) (opening st) (unfold opening in (refl, refl))))))

@@ -2,8 +2,15 @@
 pub mod Latch
 pub mod Members
 pub mod Order
+pub mod Sentences
+pub mod Refusals
+pub mod Mixings
 pub mod Steps
 pub mod TurnFacts
 pub mod Works
+pub mod Parts
 pub mod Course
 pub mod HistoryDemand
+pub mod SameFields
+pub mod Once
+pub mod ListOnce

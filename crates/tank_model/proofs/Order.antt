@@ -15,7 +15,7 @@ use Rattle.tank_model.specs.declared.TankDesign.{TankDesign}
 use Rattle.tank_model.specs.Fixed.{Fixed, placed, noHeater, notPlaced, placedHeaters, heaterOf, fixedOf}
 use Rattle.tank_model.specs.Order.{comesBefore, workingOrder}
 use Rattle.tank_model.specs.Members.{All, Distinct, ChainFrom, Chain}
-use Rattle.tank_model.specs.Course.{positionOf, WorkedBefore, InWorkingOrder}
+use Rattle.tank_model.specs.Arguments.{positionOf, WorkedBefore, InWorkingOrder}
 use Rattle.tank_model.proofs.Members.{by-cond, In, numbers-above, numbers-distinct, indices-below, in-indices}
 
 -- ---- insertion sort, for any test

@@ -19,7 +19,8 @@ use Rattle.heating.specs.Switch.{atOrUnderLower, upperMissingOrReached}
 use Rattle.heating.specs.SwitchLaws.{latched}
 use Rattle.tank_model.specs.Work.{Progress, Turn, End, refused, done, Work, resume, andThen, endBy, lineOf, zeroLine, closed, closing}
 use Rattle.tank_model.specs.Members.{All}
-use Rattle.tank_model.specs.HistoryDemand.{Nondecreasing, OrderedOrNine, EventOrderedOrNine}
+use Rattle.tank_model.specs.Course.{Nondecreasing}
+use Rattle.tank_model.specs.HistoryDemand.{OrderedOrNine, EventOrderedOrNine}
 use Rattle.tank_model.proofs.Members.{any, all-append, all-left, all-right, all-map, all-both, any-append, In, NotIn, in-all, in-or-not, in-left, in-right}
 
 -- ---- a mixing

@@ -1,17 +1,26 @@
 -- Proves that a turn is what demand 3 says of it (01, Turn): its facts by make's and the step's arguments, its supply, and what it does to flags and lines.
-use mathlib.Core.Path.{_≡_, refl, ap}
+use mathlib.Core.Path.{_≡_, refl, sym, ap, subst}
+use mathlib.Core.Logic.{_⊎_, inl, inr, ⊎-elim, _↔_}
 use mathlib.Core.List.{List, [], _∷_}
-use mathlib.Core.Bool.{Bool, true, false, not}
+use mathlib.Core.Bool.{Bool, true, false, not, cond}
 use Prim.Native.Nat.{ℕ, _<_}
 use native.Mathlib.Omega.{arith}
 use lib.Dec.{T, lit<}
 use lib.ListN.{length, getD, set}
-use lib.Ieee.{Float, nan, eq}
-use Rattle.numeric.specs.Double.{zero-f}
+use lib.Ieee.{Float, nan, eq, lt}
+use lib.Ieee.Bits.{is-true}
+use Rattle.numeric.specs.Double.{_⊖_, zero-f}
+use Rattle.numeric.specs.Compare.{minOf2, maxOf2}
+use Rattle.numeric.specs.Close.{wideClose, narrowClose}
 use Rattle.numeric.specs.Whole.{layerOf}
 use Rattle.mixing.specs.Rearrange.{Mixing, sorted, unsorted}
-use Rattle.heating.specs.Switch.{switchOn}
-use Rattle.heating.specs.Losses.{surplus}
+use Rattle.cylinder.specs.Layers.{layerVolume, layerVolumes}
+use Rattle.heating.specs.declared.SetPoints.{SetPoints}
+use Rattle.heating.specs.declared.SetPoints.the-variants.{Neither, Lower, Upper, Both}
+use Rattle.heating.specs.Switch.{hasUpper, upperOf, atOrUnderLower, upperMissingOrReached, switchOn, switchOff}
+use Rattle.heating.specs.Heat.{offer, heated}
+use Rattle.heating.specs.Losses.{surplus, adjusted}
+use Rattle.heating.specs.Supply.{demand, supply}
 use Rattle.heating.specs.declared.turn.Immersion.{Immersion}
 use Rattle.heating.specs.Turn.{Turned, input, heatAndMix, adjustedInput, afterMixing, turn, turnNumber}
 use Rattle.heating.specs.SwitchLaws.{latched, switches-latch}
@@ -22,10 +31,71 @@ use Rattle.tank_model.specs.declared.Step.{Step}
 use Rattle.tank_model.specs.Fixed.{Placed, fixedOf}
 use Rattle.tank_model.specs.Checks.{isPositive, notNegative, pointsOf}
 use Rattle.tank_model.specs.Work.{Progress, Turn, endBy, turnOf, afterTurn, heaterTurn}
-use Rattle.tank_model.specs.Course.{cylinderOf, volumesOf, ratedOf, heaterLayer, thermostatLayer, TurnOf}
-use Rattle.tank_model.specs.HistoryDemand.{passed, RightlySupplied}
+use Rattle.tank_model.specs.Arguments.{cylinderOf, volumesOf, ratedOf, heaterLayer, thermostatLayer, maxEnergy, HasUpper, AtOrUnderLower, UpperMissingOrReached}
+use Rattle.tank_model.specs.Course.{passed, MixingOf, TurnOf}
+use Rattle.tank_model.specs.HistoryDemand.{RightlySupplied}
+use Rattle.tank_model.proofs.Sentences.{itself, or-says, not-says, not-true}
+use Rattle.tank_model.proofs.Mixings.{mixing-of}
 use Rattle.tank_model.proofs.Order.{heater-is}
 use Rattle.tank_model.proofs.Steps.{Sorted, rearrange-sorted, end-reach, Meets, began, ended, Law, first-law}
+
+-- ---- the thermostat layer and the switches
+
+upper-says : (p : SetPoints) → T (hasUpper p) ↔ HasUpper p
+unfolding hasUpper
+upper-says Neither = itself
+upper-says (Lower l) = itself
+upper-says (Upper u) = itself
+upper-says (Both l u) = itself
+
+pub lower-says : (p : SetPoints) (t : Float) → T (atOrUnderLower p t) ↔ AtOrUnderLower p t
+unfolding atOrUnderLower
+lower-says Neither t = itself
+lower-says (Lower l) t = or-says (lt t l) (narrowClose t l)
+lower-says (Upper u) t = itself
+lower-says (Both l u) t = or-says (lt t l) (narrowClose t l)
+
+pub reached-says : (p : SetPoints) (t : Float) → T (upperMissingOrReached p t) ↔ UpperMissingOrReached p t
+unfolding upperMissingOrReached hasUpper upperOf
+reached-says Neither t = itself
+reached-says (Lower l) t = itself
+reached-says (Upper u) t = or-says (lt u t) (narrowClose t u)
+reached-says (Both l u) t = or-says (lt u t) (narrowClose t u)
+
+on-cases : (upper low flag : Bool) {U L : Type 0} → T upper ↔ U → T low ↔ L → T (cond upper (cond low true flag) false) ↔ (U × (L ⊎ T flag))
+on-cases true true flag u l = (λ t. (u .0 tt, inl (l .0 tt)), λ p. tt)
+on-cases true false flag u l = (λ t. (u .0 tt, inr t), λ p. ⊎-elim (λ n. absurd (l .1 n)) (λ t. t) (p .1))
+on-cases false low flag u l = (λ t. absurd t, λ p. absurd (u .1 (p .0)))
+
+switched-on : (p : SetPoints) (t : Float) (flag : Bool) → T (switchOn p t flag) ↔ (HasUpper p × (AtOrUnderLower p t ⊎ T flag))
+unfolding switchOn
+switched-on p t flag = on-cases (hasUpper p) (atOrUnderLower p t) flag (upper-says p) (lower-says p t)
+
+off-cases : (off flag : Bool) {O : Type 0} → T off ↔ O → T (cond off false flag) ↔ (T flag × ¬ O)
+off-cases true flag o = (λ t. absurd t, λ p. absurd (p .1 (o .0 tt)))
+off-cases false flag o = (λ t. (t, λ x. o .1 x), λ p. p .0)
+
+switched-off : (p : SetPoints) (t : Float) (flag : Bool) → T (switchOff p t flag) ↔ (T flag × ¬ (UpperMissingOrReached p t))
+unfolding switchOff
+switched-off p t flag = off-cases (upperMissingOrReached p t) flag (reached-says p t)
+
+-- ---- adjusted and supplied, case by case
+
+adjusts-none : (input over : Float) → ¬ (T (lt zero-f input)) → adjusted input over ≡ zero-f
+unfolding adjusted
+adjusts-none input over n = rw (not-true (lt zero-f input) n)
+
+adjusts-some : (input over : Float) → T (lt zero-f input) → adjusted input over ≡ maxOf2 zero-f (minOf2 (input ⊖ over) input)
+unfolding adjusted
+adjusts-some input over t = rw (is-true (lt zero-f input) t)
+
+supplies-none : (x energy : Float) → T (wideClose x zero-f) → supply x energy ≡ minOf2 zero-f energy
+unfolding supply demand
+supplies-none x energy t = rw (is-true (wideClose x zero-f) t)
+
+supplies-some : (x energy : Float) → ¬ (T (wideClose x zero-f)) → supply x energy ≡ minOf2 x energy
+unfolding supply demand
+supplies-some x energy n = rw (not-true (wideClose x zero-f) n)
 
 module _ (m : TankDesign) (a : Step) where
   -- the heater h by make's arguments
@@ -47,7 +117,7 @@ module _ (m : TankDesign) (a : Step) where
   turnBy h s x = turnFrom h s x (turn (cylinderOf m) (volumesOf m) x (pointsOf a h) (s .temps) (s .charged) (getD (s .flags) h false))
 
   turn-is : (h : ℕ) (s : Progress) → h < m .heaters → turnOf (fixedOf m) a h s ≡ turnBy h s (immersion h)
-  unfolding turnOf
+  unfolding turnOf layerVolumes layerVolume
   turn-is h s l = ap (λ (y : Placed). turnBy h s (record { rated = y .rated; layer = layerOf (y .position) (m .layers); thermostat = layerOf (y .thermostat) (m .layers) })) (heater-is m h l)
 
   -- whether it runs, and what its mixing comes to
@@ -69,29 +139,49 @@ module _ (m : TankDesign) (a : Step) where
   unfolding heatAndMix
   mixing-sorted h s = rearrange-sorted (m .layers) (volumesOf m) _
 
+  -- what it heats, and then mixes
+  abbrev heatedOf : ℕ → Progress → List Float
+  heatedOf h s = heated (cylinderOf m) (volumesOf m) (offer (runs h s) (maxEnergy m h) (heaterLayer m h)) (s .temps)
+
+  mixing-is : (h : ℕ) (s : Progress) → MixingOf (m .layers) (volumesOf m) (heatedOf h s) (mixingOf h s)
+  unfolding heatAndMix
+  mixing-is h s = mixing-of (m .layers) (volumesOf m) (heatedOf h s)
+
   -- ---- its facts
 
   pub turn-of : (fs : List Bool) (h : ℕ) (s : Progress) → h < m .heaters → getD (s .flags) h false ≡ getD fs h false → TurnOf m a fs h s (turnOf (fixedOf m) a h s)
   turn-of fs h s l f = rw (turn-after h s l) (go (mixingOf h s) refl)
     where
+      ran-by : T (runs h s) ↔ (HasUpper (pointsOf a h) × (AtOrUnderLower (pointsOf a h) (getD (s .temps) (thermostatLayer m h) nan) ⊎ T (getD fs h false)))
+      ran-by = rw (← f) (switched-on (pointsOf a h) (getD (s .temps) (thermostatLayer m h) nan) (getD (s .flags) h false))
+
       go : (x : Mixing) → x ≡ mixingOf h s → TurnOf m a fs h s (turnAfter h s x)
-      go (sorted after k) e = unfold afterMixing heatAndMix adjustedInput input in (record {
+      go (sorted after k) e = unfold afterMixing adjustedInput input in (record {
         heater = refl;
         points = refl;
         before = refl;
         start = refl;
-        ran = ap (λ (b : Bool). switchOn (pointsOf a h) (getD (s .temps) (thermostatLayer m h) nan) b) f;
-        mixing = e;
-        after-mixing = (record { temps = refl; charged = refl; flag = refl; adjusted = refl; supplied = refl; losses = refl }, refl);
+        ran = ran-by;
+        mixing = subst (MixingOf (m .layers) (volumesOf m) (heatedOf h s)) (sym e) (mixing-is h s);
+        after-mixing = (record {
+          temps = refl;
+          charged = refl;
+          losses = refl;
+          no-input = adjusts-none _ _;
+          some-input = adjusts-some _ _;
+          none-asked = supplies-none _ _;
+          some-asked = supplies-some _ _;
+          flag = switched-off _ _ _;
+        }, refl);
         finish = refl;
       })
-      go unsorted e = unfold afterMixing heatAndMix in (record {
+      go unsorted e = unfold afterMixing in (record {
         heater = refl;
         points = refl;
         before = refl;
         start = refl;
-        ran = ap (λ (b : Bool). switchOn (pointsOf a h) (getD (s .temps) (thermostatLayer m h) nan) b) f;
-        mixing = e;
+        ran = ran-by;
+        mixing = subst (MixingOf (m .layers) (volumesOf m) (heatedOf h s)) (sym e) (mixing-is h s);
         after-mixing = tt;
         finish = refl;
       })

@@ -24,7 +24,7 @@ use Rattle.tank_model.specs.Order.{workingOrder}
 use Rattle.tank_model.specs.Checks.{firstRefusal, unless, isPositive, notNegative, isPosition, fairHeater, tankChecks, stepChecks, makeRefusal, stepRefusal}
 use Rattle.tank_model.specs.Work.{Progress, Turn, Work, andThen, endBy, event, events, wantedVolumes, withAverage, heaterTurn, turns, allTurns, afterEvent, opening, begin, work}
 use Rattle.tank_model.specs.Members.{All, Distinct}
-use Rattle.tank_model.specs.Course.{cylinderOf}
+use Rattle.tank_model.specs.Arguments.{cylinderOf}
 use Rattle.tank_model.specs.HistoryDemand.{EventOrderedOrNine}
 use Rattle.tank_model.proofs.Members.{all-map}
 use Rattle.tank_model.proofs.Order.{heater-is, heaters-many, order-below, order-once}

@@ -1,35 +1,33 @@
--- States the course of one step in demand 3's own words, by make's and the step's arguments (01, Step; Turn): which events and turns there are, on which layers
--- each begins, what each is, and which of them ended the step. It is a statement about a `Work`, and says nothing of how one is computed.
+-- States the course of one step in demand 3's own words, by make's and the step's arguments (01, Draw; Mix; Switch-on to Step; Turn; refusals 9 and 10): what it begins on, which
+-- events and turns there are, on what each begins, what each is and hands on, the average, and what ended the step with which number. It is a statement about a
+-- `Work` and takes only the records of Work.antt: it cites nothing that works, chains or checks a step.
 use mathlib.Core.Path.{_≡_}
-use mathlib.Core.Logic.{_⊎_}
+use mathlib.Core.Logic.{_⊎_, _↔_}
 use mathlib.Core.List.{List, [], _∷_}
-use mathlib.Core.Bool.{Bool, true, false, not, cond}
-use Prim.Native.Nat.{ℕ, _<_}
+use mathlib.Core.Bool.{Bool, true, false}
+use Prim.Native.Nat.{ℕ, _+_, _-_, _<_, _≤_}
 use lib.Dec.{T}
-use lib.ListN.{getD}
-use lib.Ieee.{Float, nan, le}
-use Rattle.numeric.specs.Double.{_⊛_}
+use lib.ListN.{length, getD, set, replicate}
+use lib.Ieee.{Float, nan, lt, le}
+use Rattle.numeric.specs.Double.{dbl, _⊕_, _⊖_, _⊛_, _⊘_, zero-f}
+use Rattle.numeric.specs.Compare.{minOf2, maxOf2}
+use Rattle.numeric.specs.Close.{wideClose}
 use Rattle.numeric.specs.Tabulate.{tabulate}
 use Rattle.numeric.specs.Sum2.{sum2}
-use Rattle.numeric.specs.Whole.{layerOf}
-use Rattle.mixing.specs.Rearrange.{Mixing, sorted, unsorted, rearrange}
-use Rattle.cylinder.specs.declared.Cylinder.{Cylinder}
-use Rattle.cylinder.specs.Layers.{layerVolumes}
-use Rattle.draw_off.specs.Draw.{extract}
+use Rattle.mixing.specs.Rearrange.{Mixing, sorted, unsorted, afterRounds}
+use Rattle.draw_off.specs.Draw.{extract, volumeUsed}
 use Rattle.draw_off.specs.Refill.{refill}
-use Rattle.draw_off.specs.Event.{unmixed, mixed, Event, eventNumber}
-use Rattle.heating.specs.Switch.{switchOn, switchOff}
+use Rattle.draw_off.specs.Event.{Event, unmixed, mixed}
 use Rattle.heating.specs.Heat.{offer, heated}
-use Rattle.heating.specs.Losses.{tempsAfter, chargedAfter, surplus, adjusted, losses}
-use Rattle.heating.specs.Supply.{supply}
-use Rattle.heating.specs.Turn.{turnNumber}
+use Rattle.heating.specs.Losses.{tempsAfter, chargedAfter, surplus, losses}
 use Rattle.tank_model.specs.declared.TankDesign.{TankDesign}
 use Rattle.tank_model.specs.declared.Step.{Step}
-use Rattle.tank_model.specs.Fixed.{State, noHeater, fixedOf}
+use Rattle.tank_model.specs.declared.HeaterLine.{HeaterLine}
+use Rattle.tank_model.specs.Fixed.{State, fixedOf}
 use Rattle.tank_model.specs.Order.{workingOrder}
-use Rattle.tank_model.specs.Checks.{noSetting, stepRefusal}
-use Rattle.tank_model.specs.Work.{Progress, Turn, End, refused, done, Work, stop, afterEvent, afterTurn, opening, withAverage, closed}
-use Rattle.tank_model.specs.Members.{All, Some, Distinct, Chain}
+use Rattle.tank_model.specs.Work.{Progress, Turn, End, refused, done, Work}
+use Rattle.tank_model.specs.Arguments.{cylinderOf, volumesOf, heaterLayer, thermostatLayer, maxEnergy, setPointsOf, eventVolume, HasUpper, AtOrUnderLower, UpperMissingOrReached}
+use Rattle.tank_model.specs.Refusals.{NotFinite, LayerNotFinite, FirstOf, StepRefusal}
 
 abbrev pub accepted : End → Bool
 accepted (refused n) = false
@@ -39,48 +37,31 @@ abbrev pub numberOf : End → ℕ
 numberOf (refused n) = n
 numberOf (done s) = 0
 
--- ---- make's arguments
+-- ---- a mixing
 
-abbrev pub cylinderOf : TankDesign → Cylinder
-cylinderOf m = fixedOf m .cylinder
+-- each of n layers is at most the one above it
+abbrev pub Nondecreasing : ℕ → List Float → Type 0
+Nondecreasing n temps = (i : ℕ) → i + 1 < n → T (le (getD temps i nan) (getD temps (i + 1) nan))
 
-abbrev pub volumesOf : TankDesign → List Float
-volumesOf m = layerVolumes (cylinderOf m)
+-- rounds repeat until order is nondecreasing, and the first always runs: k is the first round after which it is, and leaves `after`
+pub record InOrderAfter (n : ℕ) (vol temps after : List Float) (k : ℕ) : Type 0 where
+  pub some : 1 ≤ k
+  pub within : k ≤ 64
+  pub layers : after ≡ afterRounds k n vol temps
+  pub order : Nondecreasing n after
+  pub first : (j : ℕ) → 1 ≤ j → j < k → ¬ (Nondecreasing n (afterRounds j n vol temps))
 
-abbrev pub ratedOf : TankDesign → ℕ → Float
-ratedOf m h = getD (m .fitted) h noHeater .rated
+-- the mixing of these layers came to x; `unsorted`: it is not in nondecreasing order after 64 rounds, nor after any before
+abbrev pub MixingOf : ℕ → List Float → List Float → Mixing → Type 0
+MixingOf n vol temps (sorted after k) = InOrderAfter n vol temps after k
+MixingOf n vol temps unsorted = (j : ℕ) → 1 ≤ j → j ≤ 64 → ¬ (Nondecreasing n (afterRounds j n vol temps))
 
-abbrev pub positionOf : TankDesign → ℕ → Float
-positionOf m h = getD (m .fitted) h noHeater .position
+-- it handed on layers
+abbrev pub passed : Mixing → Bool
+passed (sorted temps k) = true
+passed unsorted = false
 
--- a thermostat without a position sits in the heater's layer
-abbrev pub thermostatOf : TankDesign → ℕ → Float
-thermostatOf m h = cond (getD (m .fitted) h noHeater .«has_thermostat») (getD (m .fitted) h noHeater .thermostat) (positionOf m h)
-
-abbrev pub heaterLayer : TankDesign → ℕ → ℕ
-heaterLayer m h = layerOf (positionOf m h) (m .layers)
-
-abbrev pub thermostatLayer : TankDesign → ℕ → ℕ
-thermostatLayer m h = layerOf (thermostatOf m h) (m .layers)
-
--- rated power × step length, rounded once
-abbrev pub maxEnergy : TankDesign → ℕ → Float
-maxEnergy m h = ratedOf m h ⊛ m .timestep
-
--- ---- the order of work
-
--- the heater i is worked before j: it is given earlier and j's position is not lower, or it is given later and its position is lower
-abbrev pub WorkedBefore : TankDesign → ℕ → ℕ → Type 0
-WorkedBefore m i j = ((i < j) × T (le (positionOf m i) (positionOf m j))) ⊎ ((j < i) × T (not (le (positionOf m j) (positionOf m i))))
-
--- each heater, once, and nothing else; and each worked before the next
-pub record InWorkingOrder (m : TankDesign) (hs : List ℕ) : Type 0 where
-  pub each : (h : ℕ) → h < m .heaters → Some (λ (k : ℕ). h ≡ k) hs
-  pub only : All (λ (k : ℕ). k < m .heaters) hs
-  pub once : Distinct hs
-  pub chain : Chain (WorkedBefore m) hs
-
--- ---- one event and one turn
+-- ---- one event
 
 -- the event of the volume v in a step with this feed, which began where the work had come to s: if its refill says so it has its one mixing, else none
 pub record EventOf (m : TankDesign) (feed : Float) (v : Float) (s : Progress) (e : Event) : Type 0 where
@@ -88,70 +69,173 @@ pub record EventOf (m : TankDesign) (feed : Float) (v : Float) (s : Progress) (e
   pub before : e .before ≡ s .temps
   pub draw : e .draw ≡ extract (cylinderOf m) (volumesOf m) feed (s .temps) v (s .totals .weighted) (s .totals .drawn)
   pub refill : e .refill ≡ refill (m .layers) (volumesOf m) feed (s .temps) (e .draw .held)
-  pub mixing : T (e .refill .mixes) → e .mixing ≡ mixed (rearrange (m .layers) (volumesOf m) (e .refill .temps))
-  pub no-mixing : T (not (e .refill .mixes)) → e .mixing ≡ unmixed
+  pub mixing : T (e .refill .mixes) → (x : Mixing) × (e .mixing ≡ mixed x) × MixingOf (m .layers) (volumesOf m) (e .refill .temps) x
+  pub no-mixing : ¬ (T (e .refill .mixes)) → e .mixing ≡ unmixed
 
--- what a turn came to after a mixing that left `after`
+-- it hands on s': the layers of its mixing, or of its refill if it has none; its energy and its volume used are added to the step's, and its draw ran on from the
+-- step's weighted sum and volume drawn; no heater is touched
+pub record EventLeaves (m : TankDesign) (s : Progress) (e : Event) (s' : Progress) : Type 0 where
+  pub temps-mixed : (after : List Float) (rounds : ℕ) → e .mixing ≡ mixed (sorted after rounds) → s' .temps ≡ after
+  pub temps-unmixed : e .mixing ≡ unmixed → s' .temps ≡ e .refill .temps
+  pub energy : s' .totals .energy ≡ s .totals .energy ⊕ e .draw .energy
+  pub used : s' .totals .used ≡ s .totals .used ⊕ volumeUsed (cylinderOf m) (e .draw .held)
+  pub weighted : s' .totals .weighted ≡ e .draw .weighted
+  pub drawn : s' .totals .drawn ≡ e .draw .drawn
+  pub flags : s' .flags ≡ s .flags
+  pub charged : s' .charged ≡ s .charged
+  pub losses : s' .losses ≡ s .losses
+  pub lines : s' .lines ≡ s .lines
+
+-- 10. Not finite: a layer, or energy or volume used so far, after an event
+abbrev pub EventNotFinite : TankDesign → Progress → Type 0
+EventNotFinite m s' = LayerNotFinite m (s' .temps) ⊎ NotFinite (s' .totals .energy) ⊎ NotFinite (s' .totals .used)
+
+-- n is the number that it draws, or 0
+abbrev pub EventDraws : TankDesign → Event → Progress → ℕ → Type 0
+EventDraws m e s' n = FirstOf ((9, e .mixing ≡ mixed unsorted) ∷ (10, EventNotFinite m s') ∷ []) n
+
+-- ---- one turn
+
+-- Sum2 of all offers
+abbrev pub inputOf : TankDesign → ℕ → Turn → Float
+inputOf m h u = sum2 (tabulate (offer (u .turned .ran) (maxEnergy m h) (heaterLayer m h)) (m .layers) 0)
+
+-- what a turn came to after a mixing that left `after`. Its flag is on if the heater ran and the upper set point is neither missing nor reached on the layers it left
 pub record FiguresOf (m : TankDesign) (h : ℕ) (s : Progress) (u : Turn) (after : List Float) : Type 0 where
   pub temps : u .turned .temps ≡ tempsAfter (cylinderOf m) (volumesOf m) (u .points) (s .temps) after (s .charged)
   pub charged : u .turned .charged ≡ chargedAfter (cylinderOf m) (volumesOf m) (u .points) (s .temps) after (s .charged)
-  pub flag : u .turned .flag ≡ switchOff (u .points) (u .finish) (u .turned .ran)
-  pub adjusted : u .turned .adjusted ≡ adjusted (sum2 (tabulate (offer (u .turned .ran) (maxEnergy m h) (heaterLayer m h)) (m .layers) 0)) (surplus (cylinderOf m) (volumesOf m) (u .points) (s .temps) after (s .charged) (heaterLayer m h))
-  pub supplied : u .turned .supplied ≡ supply (u .turned .adjusted) (maxEnergy m h)
   pub losses : u .turned .losses ≡ losses (cylinderOf m) (volumesOf m) (u .points) (s .temps) after (s .charged)
+  pub no-input : ¬ (T (lt zero-f (inputOf m h u))) → u .turned .adjusted ≡ zero-f
+  pub some-input : T (lt zero-f (inputOf m h u))
+      → let over = surplus (cylinderOf m) (volumesOf m) (u .points) (s .temps) after (s .charged) (heaterLayer m h) in
+      u .turned .adjusted ≡ maxOf2 zero-f (minOf2 (inputOf m h u ⊖ over) (inputOf m h u))
+  pub none-asked : T (wideClose (u .turned .adjusted) zero-f) → u .turned .supplied ≡ minOf2 zero-f (maxEnergy m h)
+  pub some-asked : ¬ (T (wideClose (u .turned .adjusted) zero-f)) → u .turned .supplied ≡ minOf2 (u .turned .adjusted) (maxEnergy m h)
+  pub flag : T (u .turned .flag) ↔ (T (u .turned .ran) × ¬ (UpperMissingOrReached (u .points) (u .finish)))
 
 abbrev pub AfterMixing : TankDesign → ℕ → Progress → Turn → Mixing → Type 0
 AfterMixing m h s u (sorted after k) = FiguresOf m h s u after × (u .turned .rounds ≡ k)
 AfterMixing m h s u unsorted = Unit {0}
 
--- the turn of the heater given as h, in a step with the arguments a that began with the flags fs, which began where the work had come to s
+-- the turn of the heater given as h, in a step with the arguments a that began with the flags fs, which began where the work had come to s. The heater ran if it has
+-- an upper set point, and its thermostat layer is at or under a lower one or its flag was on
 pub record TurnOf (m : TankDesign) (a : Step) (fs : List Bool) (h : ℕ) (s : Progress) (u : Turn) : Type 0 where
   pub heater : u .heater ≡ h
-  pub points : u .points ≡ getD (a .settings) h noSetting .points
+  pub points : u .points ≡ setPointsOf a h
   pub before : u .before ≡ s .temps
   pub start : u .start ≡ getD (s .temps) (thermostatLayer m h) nan
-  pub ran : u .turned .ran ≡ switchOn (u .points) (u .start) (getD fs h false)
-  pub mixing : u .turned .mixing ≡ rearrange (m .layers) (volumesOf m) (heated (cylinderOf m) (volumesOf m) (offer (u .turned .ran) (maxEnergy m h) (heaterLayer m h)) (s .temps))
+  pub ran : T (u .turned .ran) ↔ (HasUpper (u .points) × (AtOrUnderLower (u .points) (u .start) ⊎ T (getD fs h false)))
+  pub mixing : MixingOf (m .layers) (volumesOf m)
+      (heated (cylinderOf m) (volumesOf m) (offer (u .turned .ran) (maxEnergy m h) (heaterLayer m h)) (s .temps))
+      (u .turned .mixing)
   pub after-mixing : AfterMixing m h s u (u .turned .mixing)
   pub finish : u .finish ≡ getD (u .turned .temps) (thermostatLayer m h) nan
 
--- ---- what ended a step
+-- each field of a heater's line is its turn's figure of that name
+pub record LineTells (u : Turn) (line : HeaterLine) : Type 0 where
+  pub flag : line .flag ≡ u .turned .flag
+  pub adjusted : line .adjusted ≡ u .turned .adjusted
+  pub supplied : line .supplied ≡ u .turned .supplied
+  pub losses : line .losses ≡ u .turned .losses
+  pub rounds : line .rounds ≡ u .turned .rounds
 
-abbrev pub eventNext : TankDesign → Progress → Event → Progress
-eventNext m s e = afterEvent (cylinderOf m) e s
+-- it hands on s': its layers and charges; its flag and its line in its heater's own place, the other places kept; its losses added; nothing drawn
+pub record TurnLeaves (s : Progress) (u : Turn) (s' : Progress) : Type 0 where
+  pub temps : s' .temps ≡ u .turned .temps
+  pub charged : s' .charged ≡ u .turned .charged
+  pub flag-place : u .heater < length (s .flags)
+  pub flags : s' .flags ≡ set (s .flags) (u .heater) (u .turned .flag)
+  pub line-place : u .heater < length (s .lines)
+  pub lines : (line : HeaterLine) × LineTells u line × (s' .lines ≡ set (s .lines) (u .heater) line)
+  pub losses : s' .losses ≡ s .losses ⊕ u .turned .losses
+  pub totals : s' .totals ≡ s .totals
+  pub average : s' .average ≡ s .average
 
-abbrev pub eventEnds : TankDesign → Progress → Event → ℕ
-eventEnds m s e = eventNumber (cylinderOf m) e (s .totals)
+-- 10. Not finite: a layer or its figures after a heater's turn
+abbrev pub TurnNotFinite : TankDesign → Turn → Type 0
+TurnNotFinite m u =
+    LayerNotFinite m (u .turned .temps) ⊎ NotFinite (u .turned .adjusted) ⊎ NotFinite (u .turned .supplied) ⊎ NotFinite (u .turned .losses)
 
-abbrev pub turnNext : Progress → Turn → Progress
-turnNext s u = afterTurn u s
+-- n is the number that it draws, or 0
+abbrev pub TurnDraws : TankDesign → Turn → ℕ → Type 0
+TurnDraws m u n = FirstOf ((9, u .turned .mixing ≡ unsorted) ∷ (10, TurnNotFinite m u) ∷ []) n
 
-abbrev pub turnEnds : TankDesign → Progress → Turn → ℕ
-turnEnds m s u = turnNumber (cylinderOf m) (u .turned)
+-- ---- one after the other
 
--- The deeds ds, from s to the end e: each of ks had its deed, in their order, from where the one before left off; either all of them, and none ended the step,
--- or up to the one that did
-abbrev pub Ran : {K D : Type 0} → (K → Progress → D → Type 0) → (Progress → D → Progress) → (Progress → D → ℕ) → Progress → List K → List D → End → Type 0
-Ran Of next number s [] [] e = e ≡ done s
-Ran Of next number s [] (d ∷ ds) e = ⊥
-Ran Of next number s (k ∷ ks) [] e = ⊥
-Ran Of next number s (k ∷ ks) (d ∷ ds) e =
-    Of k s d
-    × (((number s d ≡ 0) × Ran Of next number (next s d) ks ds e) ⊎ ((0 < number s d) × (e ≡ refused (number s d)) × (ds ≡ [])))
+-- The parts ps of the work, events or turns, from s: each of ks had its part, in their order, and each began on the s' that the one before handed on (`Part k s p s'`).
+-- Either all of them drew 0, and Then holds of what the last handed on; or the last of ps drew a number, for which Stopped holds.
+abbrev pub InSequence : {K P : Type 0}
+    → (K → Progress → P → Progress → Type 0)
+    → (P → Progress → ℕ → Type 0)
+    → (Progress → Type 0)
+    → (ℕ → Type 0)
+    → Progress
+    → List K
+    → List P
+    → Type 0
+InSequence Part Draws Then Stopped s [] [] = Then s
+InSequence Part Draws Then Stopped s [] (p ∷ ps) = ⊥
+InSequence Part Draws Then Stopped s (k ∷ ks) [] = ⊥
+InSequence Part Draws Then Stopped s (k ∷ ks) (p ∷ ps) =
+    (s' : Progress) × Part k s p s'
+    × ((Draws p s' 0 × InSequence Part Draws Then Stopped s' ks ps) ⊎ ((n : ℕ) × (0 < n) × Draws p s' n × Stopped n × (ps ≡ [])))
 
 -- ---- the course of a step
 
-abbrev pub Events : TankDesign → Step → Progress → List Event → End → Type 0
-Events m a s es e = Ran (EventOf m (a .feed)) (eventNext m) (eventEnds m) s (tabulate (λ (i : ℕ). getD (a .volumes) i nan) (a .events) 0) es e
+-- a step begins on the layers and flags of the state st, with nothing drawn and nothing charged
+pub record Opens (st : State) (s : Progress) : Type 0 where
+  pub temps : s .temps ≡ st .temps
+  pub flags : s .flags ≡ st .flags
+  pub totals : s .totals ≡ record { energy = zero-f; used = zero-f; weighted = zero-f; drawn = zero-f }
+  pub charged : s .charged ≡ replicate 32 zero-f
+  pub losses : s .losses ≡ zero-f
+  pub lines : s .lines ≡ replicate 8 (record { flag = false; adjusted = zero-f; supplied = zero-f; losses = zero-f; rounds = 0 })
 
+-- the average is taken at s, after the events, and noted in s': weighted sum / volume drawn, or the top layer if that volume is wide-close to 0
+pub record Averages (m : TankDesign) (s s' : Progress) : Type 0 where
+  pub some-drawn : ¬ (T (wideClose (s .totals .drawn) zero-f)) → s' .average ≡ s .totals .weighted ⊘ s .totals .drawn
+  pub none-drawn : T (wideClose (s .totals .drawn) zero-f) → s' .average ≡ getD (s .temps) (m .layers - 1) nan
+  pub temps : s' .temps ≡ s .temps
+  pub totals : s' .totals ≡ s .totals
+  pub flags : s' .flags ≡ s .flags
+  pub charged : s' .charged ≡ s .charged
+  pub losses : s' .losses ≡ s .losses
+  pub lines : s' .lines ≡ s .lines
+
+-- the heaters' losses × 0.75
+abbrev pub recoverableOf : Progress → Float
+recoverableOf s = s .losses ⊛ dbl 0x3fe8_0000_0000_0000
+
+-- 10. Not finite: average or recoverable at the end
+abbrev pub EndNotFinite : Progress → Type 0
+EndNotFinite s = NotFinite (s .average) ⊎ NotFinite (recoverableOf s)
+
+-- a step that all turns have passed ends there, or with 10
+abbrev pub Closes : End → Progress → Type 0
+Closes end s = (EndNotFinite s × (end ≡ refused 10)) ⊎ (¬ (EndNotFinite s) × (end ≡ done s))
+
+-- an event of the step, and a turn
+abbrev pub EventPart : TankDesign → Step → Float → Progress → Event → Progress → Type 0
+EventPart m a v s e s' = EventOf m (a .feed) v s e × EventLeaves m s e s'
+
+abbrev pub TurnPart : TankDesign → Step → List Bool → ℕ → Progress → Turn → Progress → Type 0
+TurnPart m a fs h s u s' = TurnOf m a fs h s u × TurnLeaves s u s'
+
+-- the turns us, in working order, from s to the step's end
 abbrev pub Turns : TankDesign → Step → List Bool → Progress → List Turn → End → Type 0
-Turns m a fs s us e = Ran (TurnOf m a fs) turnNext (turnEnds m) s (workingOrder (fixedOf m)) us e
+Turns m a fs s us end =
+    InSequence (TurnPart m a fs) (λ (u : Turn) (x : Progress). TurnDraws m u) (Closes end) (λ (n : ℕ). end ≡ refused n) s (workingOrder (fixedOf m)) us
 
--- A step from the state st is refused by the first check that does not pass, with nothing worked; or by one of its events, with no turn; or it is all its events,
--- the average, the turns in working order, and what the end looks at
+-- the events of the work w, from s, and then the average and the turns; or none of these, where an event ended the step
+abbrev pub EventsThenTurns : TankDesign → Step → List Bool → Progress → Work → Type 0
+EventsThenTurns m a fs s w =
+    InSequence (EventPart m a) (EventDraws m)
+    (λ (x : Progress). (x' : Progress) × Averages m x x' × Turns m a fs x' (w .turns) (w .end))
+    (λ (n : ℕ). (w .end ≡ refused n) × (w .turns ≡ []))
+    s (tabulate (eventVolume a) (a .events) 0) (w .events)
+
+-- A step from the state st is refused for the first of 1 to 8 that holds, with nothing worked; or none holds and it is worked, from its opening on
 abbrev pub Course : TankDesign → State → Step → Work → Type 0
 Course m st a w =
-    ((0 < stepRefusal (fixedOf m) st a) × (w ≡ stop (stepRefusal (fixedOf m) st a)))
-    ⊎ ((stepRefusal (fixedOf m) st a ≡ 0) × T (not (accepted (w .end))) × Events m a (opening st) (w .events) (w .end) × (w .turns ≡ []))
-    ⊎ ((stepRefusal (fixedOf m) st a ≡ 0)
-    × ((s : Progress) × Events m a (opening st) (w .events) (done s) × ((e : End) × Turns m a (st .flags) (withAverage (cylinderOf m) s) (w .turns) e × (w .end ≡ closed e))))
+    ((n : ℕ) × (0 < n) × StepRefusal m st a n × (w .end ≡ refused n) × (w .events ≡ []) × (w .turns ≡ []))
+    ⊎ (StepRefusal m st a 0 × ((s : Progress) × Opens st s × EventsThenTurns m a (st .flags) s w))

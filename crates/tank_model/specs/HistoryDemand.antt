@@ -4,39 +4,36 @@ use mathlib.Core.Path.{_≡_}
 use mathlib.Core.Logic.{_↔_}
 use mathlib.Core.List.{List, []}
 use mathlib.Core.Bool.{Bool, true, false, not}
-use Prim.Native.Nat.{ℕ, _+_, _≤_, _<_}
+use Prim.Native.Nat.{ℕ, suc, _≤_, _<_}
 use lib.Dec.{T}
-use lib.ListN.{length, getD, take}
+use lib.ListN.{length, getD, take, replicate}
 use lib.Ieee.{Float, nan, le, eq}
 use Rattle.numeric.specs.Double.{zero-f}
 use Rattle.mixing.specs.Rearrange.{Mixing, sorted, unsorted}
 use Rattle.draw_off.specs.Event.{EventMixing, unmixed, mixed, Event}
-use Rattle.heating.specs.Switch.{atOrUnderLower, upperMissingOrReached}
 use Rattle.tank_model.specs.declared.TankDesign.{TankDesign}
 use Rattle.tank_model.specs.Fixed.{State, fixedOf}
 use Rattle.tank_model.specs.Order.{workingOrder}
-use Rattle.tank_model.specs.Work.{Progress, Turn, End, refused, done, Work, stop, lineOf, zeroLine}
+use Rattle.tank_model.specs.Work.{Progress, Turn, End, refused, done, Work, zeroLine}
 use Rattle.tank_model.specs.History.{Call, step, designRefusal, start, carried, history}
 use Rattle.tank_model.specs.Members.{All, Some}
-use Rattle.tank_model.specs.Course.{accepted, maxEnergy, InWorkingOrder, Course}
+use Rattle.tank_model.specs.Arguments.{maxEnergy, InWorkingOrder, AtOrUnderLower, UpperMissingOrReached}
+use Rattle.tank_model.specs.Refusals.{MakeRefusal}
+use Rattle.tank_model.specs.Course.{accepted, Nondecreasing, passed, LineTells, Course}
 
 -- ---- of one step's work
 
 -- the turn began with its thermostat layer at or under a lower set point
 abbrev pub Began : Turn → Type 0
-Began u = T (atOrUnderLower (u .points) (u .start))
+Began u = AtOrUnderLower (u .points) (u .start)
 
 -- the turn ended with the upper set point missing or reached
 abbrev pub Ended : Turn → Type 0
-Ended u = T (upperMissingOrReached (u .points) (u .finish))
+Ended u = UpperMissingOrReached (u .points) (u .finish)
 
 -- the step is accepted, and in it the turn of the heater h is as P says
 abbrev pub InTurn : (Turn → Type 0) → ℕ → Work → Type 0
 InTurn P h w = T (accepted (w .end)) × Some (λ (u : Turn). (u .heater ≡ h) × P u) (w .turns)
-
--- each of n layers is at most the one above it
-abbrev pub Nondecreasing : ℕ → List Float → Type 0
-Nondecreasing n temps = (i : ℕ) → i + 1 < n → T (le (getD temps i nan) (getD temps (i + 1) nan))
 
 -- a mixing in a step that came to the end e handed on n layers in nondecreasing order, or drew refusal 9
 abbrev pub OrderedOrNine : ℕ → End → Mixing → Type 0
@@ -47,21 +44,33 @@ abbrev pub EventOrderedOrNine : ℕ → End → EventMixing → Type 0
 EventOrderedOrNine n e unmixed = Unit {0}
 EventOrderedOrNine n e (mixed x) = OrderedOrNine n e x
 
--- the turn got past its mixing
-abbrev pub passed : Mixing → Bool
-passed (sorted temps k) = true
-passed unsorted = false
+abbrev pub MixedOrNine : ℕ → Work → Type 0
+MixedOrNine n w =
+    All (λ (e : Event). EventOrderedOrNine n (w .end) (e .mixing)) (w .events)
+    × All (λ (u : Turn). OrderedOrNine n (w .end) (u .turned .mixing)) (w .turns)
 
 -- zero, of either sign, if the heater ran off, and never more than rated power × step length
 abbrev pub RightlySupplied : TankDesign → Turn → Float → Type 0
 RightlySupplied m u supplied =
     (T (not (u .turned .ran)) → T (eq supplied zero-f)) × T (le supplied (maxEnergy m (u .heater)))
 
+-- every turn that got past its mixing supplied so
+abbrev pub AllRightlySupplied : TankDesign → Work → Type 0
+AllRightlySupplied m w = All (λ (u : Turn). T (passed (u .turned .mixing)) → RightlySupplied m u (u .turned .supplied)) (w .turns)
+
+-- each turn has its line, at its heater's given place
+abbrev pub AllTold : Work → Progress → Type 0
+AllTold w s = All (λ (u : Turn). LineTells u (getD (s .lines) (u .heater) zeroLine)) (w .turns)
+
+-- nothing was worked, and the number is 1
+abbrev pub RefusedWithOne : Work → Type 0
+RefusedWithOne w = (w .end ≡ refused 1) × (w .events ≡ []) × (w .turns ≡ [])
+
 -- ---- of a list of calls
 
 -- past the list's end: nothing accepted, nothing worked
 abbrev pub noWork : Work
-noWork = stop 0
+noWork = record { events = []; turns = []; end = refused 0 }
 
 abbrev pub noCall : Call
 noCall = step (record { feed = nan; events = 0; volumes = []; entries = 0; settings = [] })
@@ -70,23 +79,54 @@ noCall = step (record { feed = nan; events = 0; volumes = []; entries = 0; setti
 abbrev pub OnSince : ℕ → List Work → Type 0
 OnSince h ws = (i : ℕ) × InTurn Began h (getD ws i noWork) × ((j : ℕ) → i ≤ j → ¬ (InTurn Ended h (getD ws j noWork)))
 
+-- the list begins with each layer at make's initial temperature, unused places zero, and every flag off
+pub record Starts (m : TankDesign) (st : State) : Type 0 where
+  pub layers : (k : ℕ) → k < m .layers → getD (st .temps) k nan ≡ m .initial
+  pub unused : (k : ℕ) → m .layers ≤ k → k < 32 → getD (st .temps) k nan ≡ zero-f
+  pub places : length (st .temps) ≡ 32
+  pub flags : st .flags ≡ replicate 8 false
+
+-- a call that came to this end leaves st': an accepted one exactly its layers and flags, a refused one the state as it was
+abbrev pub Carries : State → End → State → Type 0
+Carries st (refused n) st' = st' ≡ st
+Carries st (done s) st' = (st' .temps ≡ s .temps) × (st' .flags ≡ s .flags)
+
 -- the course of a call
 abbrev pub CourseOf : TankDesign → State → Call → Work → Type 0
 CourseOf m st (step a) w = Course m st a w
 
+-- works and states of a list of calls on a made tank: the call i is worked from the state i, and leaves the state i + 1
+pub record ListCourse (m : TankDesign) (calls : List Call) (works : ℕ → Work) (states : ℕ → State) : Type 0 where
+  pub starts : Starts m (states 0)
+  pub course : (i : ℕ) → i < length calls → CourseOf m (states i) (getD calls i noCall) (works i)
+  pub carries : (i : ℕ) → i < length calls → Carries (states i) (works i .end) (states (suc i))
+
+-- the work of the call i, and the state that the first i calls left
+abbrev pub workAt : TankDesign → List Call → ℕ → Work
+workAt m calls i = getD (history m calls) i noWork
+
+abbrev pub stateAt : TankDesign → List Call → ℕ → State
+stateAt m calls i = carried (start m) (take i (history m calls))
+
 -- m: make's arguments; calls: the calls' arguments
 pub record HistoryDemand (m : TankDesign) (calls : List Call) : Type 0 where
   -- after the list a flag is on exactly when 01 says
-  pub flags : (h : ℕ) → T (getD (carried (start m) (history m calls) .flags) h false) ↔ OnSince h (history m calls)
+  pub flags : (h : ℕ) → T (getD (stateAt m calls (length calls) .flags) h false) ↔ OnSince h (history m calls)
   -- every turn, in refused steps too as far as it got, supplied zero if it ran off and never more than its rated power × step length
-  pub supplies : (i : ℕ) → i < length calls → let w = getD (history m calls) i noWork in All (λ (u : Turn). T (passed (u .turned .mixing)) → RightlySupplied m u (u .turned .supplied)) (w .turns)
+  pub supplies : (i : ℕ) → i < length calls → AllRightlySupplied m (workAt m calls i)
   -- an accepted step ends with the line of each turn at its heater's given place
-  pub reported : (i : ℕ) → i < length calls → let w = getD (history m calls) i noWork in (s : Progress) → w .end ≡ done s → All (λ (u : Turn). getD (s .lines) (u .heater) zeroLine ≡ lineOf (u .turned)) (w .turns)
+  pub reported : (i : ℕ) → i < length calls → (s : Progress) → workAt m calls i .end ≡ done s → AllTold (workAt m calls i) s
   -- every mixing, of events and of turns, in refused steps too, handed on ordered layers or drew refusal 9
-  pub mixings : (i : ℕ) → i < length calls → let w = getD (history m calls) i noWork in All (λ (e : Event). EventOrderedOrNine (m .layers) (w .end) (e .mixing)) (w .events) × All (λ (u : Turn). OrderedOrNine (m .layers) (w .end) (u .turned .mixing)) (w .turns)
+  pub mixings : (i : ℕ) → i < length calls → MixedOrNine (m .layers) (workAt m calls i)
   -- a refused step has a number, which is not 0
-  pub refusals : (i : ℕ) → i < length calls → let w = getD (history m calls) i noWork in (k : ℕ) → w .end ≡ refused k → 0 < k
-  -- what the turns, the mixings and the accepted steps are
+  pub refusals : (i : ℕ) → i < length calls → (k : ℕ) → workAt m calls i .end ≡ refused k → 0 < k
+  -- each call is worked, and no more
+  pub works-all : length (history m calls) ≡ length calls
+  -- the order in which the turns are worked
   pub order : InWorkingOrder m (workingOrder (fixedOf m))
-  pub refused-make : (i : ℕ) → i < length calls → 0 < designRefusal m → getD (history m calls) i noWork ≡ stop 1
-  pub course : (i : ℕ) → i < length calls → designRefusal m ≡ 0 → CourseOf m (carried (start m) (take i (history m calls))) (getD calls i noCall) (getD (history m calls) i noWork)
+  -- what make is refused for, by 01's sentences
+  pub make-refusal : MakeRefusal m (designRefusal m)
+  -- a refused make gives a tank of no layers: every step is refused for that
+  pub refused-make : (i : ℕ) → i < length calls → 0 < designRefusal m → RefusedWithOne (workAt m calls i)
+  -- what the turns, the mixings and the accepted steps are
+  pub course : designRefusal m ≡ 0 → ListCourse m calls (workAt m calls) (stateAt m calls)

@@ -5,5 +5,7 @@ pub mod Checks
 pub mod Work
 pub mod History
 pub mod Members
+pub mod Arguments
+pub mod Refusals
 pub mod Course
 pub mod HistoryDemand
