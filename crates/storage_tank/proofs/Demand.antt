@@ -8,6 +8,7 @@ use native.Mathlib.Nat.{le-of-suc-le-suc, not-suc-le-zero}
 use native.Mathlib.Omega.{arith}
 use lib.Dec.{T, ltb, lt→ltb, ltb→lt, nltb→le}
 use lib.ListN.{length, getD, take}
+use lib.Seq.{take-all}
 use lib.Ieee.Bits.{is-true}
 use Rattle.numeric.specs.Double.{zero-f}
 use Rattle.numeric.specs.Tabulate.{tabulate, at-tabulate, past-tabulate, tabulate-same}
@@ -17,11 +18,11 @@ use Rattle.tank_model.specs.declared.HeaterLine.{HeaterLine}
 use Rattle.tank_model.specs.declared.TankDesign.{TankDesign}
 use Rattle.tank_model.specs.Fixed.{Placed, Fixed, State, placed, noHeater, placedHeaters, fixedOf}
 use Rattle.tank_model.specs.Checks.{firstRefusal, stepRefusal}
-use Rattle.tank_model.specs.Work.{Progress, Turn, End, refused, done, Work, lineOf, zeroLine, begin, work}
+use Rattle.tank_model.specs.Work.{Progress, Turn, End, refused, done, Work, zeroLine, recoverable, begin, work}
 use Rattle.tank_model.specs.History.{Call, step, designRefusal, start, carry, carried, workOf, run, history}
 use Rattle.tank_model.specs.Members.{All}
-use Rattle.tank_model.specs.Course.{accepted, numberOf}
-use Rattle.tank_model.specs.HistoryDemand.{passed, RightlySupplied, noWork, HistoryDemand}
+use Rattle.tank_model.specs.Course.{accepted, passed, LineTells}
+use Rattle.tank_model.specs.HistoryDemand.{RightlySupplied, AllRightlySupplied, AllTold, noWork, OnSince, HistoryDemand}
 use Rattle.tank_model.proofs.Members.{all-map, all-both}
 use Rattle.tank_model.proofs.Works.{made-heaters}
 use Rattle.tank_model.proofs.HistoryDemand.{history-demand}
@@ -31,7 +32,7 @@ use Rattle.storage_tank.specs.declared.Made.{Made}
 use Rattle.storage_tank.specs.declared.Stepped.{Stepped}
 use Rattle.storage_tank.specs.Tank.{fixedIn}
 use Rattle.storage_tank.specs.Calls.{zeroHeater, cleanHeater, fittedHeaters, madeOf, made, answer, stepped, answered, answers}
-use Rattle.storage_tank.specs.Demand.{suppliedIn, noAnswer, lastTank, tankOf, holding, AsGiven, FittedAsGiven, Demand3, Promises}
+use Rattle.storage_tank.specs.Demand.{suppliedIn, AnswersSupplies, AnswersTotals, AnswersNumber, noAnswer, lastTank, tankOf, NoTank, holding, AsGiven, FittedAsGiven, Demand3, Promises}
 
 -- ---- a tank that holds make's numbers is read as make's arguments
 
@@ -149,12 +150,12 @@ held-flags m (suc k) calls = sym (ap (λ (st : State). st .flags) (stays m k cal
 
 -- the number answered, where a refusal has one that is not 0
 abbrev NumberIs : Work → Stepped → Type 0
-NumberIs w y = ((k : ℕ) → w .end ≡ refused k → 0 < k) → (y .number ≡ numberOf (w .end)) × (T (accepted (w .end)) ↔ (y .number ≡ 0))
+NumberIs w y = ((k : ℕ) → w .end ≡ refused k → 0 < k) → AnswersNumber w y
 
 number-one : (t : StorageTank) (r : Report) (w : Work) → NumberIs w (answer t r (w .end))
 number-one t r w above = go (w .end) above
   where
-    go : (e : End) → ((k : ℕ) → e ≡ refused k → 0 < k) → (answer t r e .number ≡ numberOf e) × (T (accepted e) ↔ (answer t r e .number ≡ 0))
+    go : (e : End) → ((k : ℕ) → e ≡ refused k → 0 < k) → AnswersNumber (record { events = []; turns = []; end = e }) (answer t r e)
     go (refused k) f = unfold answer in (refl, (λ t. absurd t, λ t. let l = f k refl in omega arith))
     go (done s) f = unfold answer in (refl, (λ t. refl, λ t. tt))
 
@@ -165,22 +166,27 @@ LinesAre w y = (s : Progress) → w .end ≡ done s → y .report .lines ≡ s .
 lines-one : (t : StorageTank) (r : Report) (w : Work) → LinesAre w (answer t r (w .end))
 lines-one t r w s e = rw e (unfold answer in refl)
 
+-- and its totals
+abbrev TotalsAre : Work → Stepped → Type 0
+TotalsAre w y = (s : Progress) → w .end ≡ done s → AnswersTotals s (y .report)
+
+totals-one : (t : StorageTank) (r : Report) (w : Work) → TotalsAre w (answer t r (w .end))
+totals-one t r w s e = rw e (unfold answer recoverable in (record { energy = refl; used = refl; average = refl; recoverable = refl }))
+
 accepted-done : (e : End) → T (accepted e) → (s : Progress) × (e ≡ done s)
 accepted-done (refused n) t = absurd t
 accepted-done (done s) t = (s, refl)
 
 abbrev LinesOf : List Turn → List HeaterLine → Type 0
-LinesOf us lines = All (λ (u : Turn). getD lines (u .heater) zeroLine ≡ lineOf (u .turned)) us
+LinesOf us lines = All (λ (u : Turn). LineTells u (getD lines (u .heater) zeroLine)) us
 
-lines-reported : (w : Work) (y : Stepped) → LinesAre w y → ((s : Progress) → w .end ≡ done s → LinesOf (w .turns) (s .lines)) → T (accepted (w .end)) → LinesOf (w .turns) (y .report .lines)
+lines-reported : (w : Work) (y : Stepped) → LinesAre w y → ((s : Progress) → w .end ≡ done s → AllTold w s) → T (accepted (w .end)) → LinesOf (w .turns) (y .report .lines)
 lines-reported w y same told t =
     let s = accepted-done (w .end) t in
     subst (LinesOf (w .turns)) (sym (same (s .0) (s .1))) (told (s .0) (s .1))
 
 -- what a report says of a turn's supply is what was worked
-supplies-reported : (m : TankDesign) (w : Work) (y : Stepped) → (T (accepted (w .end)) → LinesOf (w .turns) (y .report .lines))
-    → All (λ (u : Turn). T (passed (u .turned .mixing)) → RightlySupplied m u (u .turned .supplied)) (w .turns)
-    → All (λ (u : Turn). T (passed (u .turned .mixing)) → RightlySupplied m u (suppliedIn w y u)) (w .turns)
+supplies-reported : (m : TankDesign) (w : Work) (y : Stepped) → (T (accepted (w .end)) → LinesOf (w .turns) (y .report .lines)) → AllRightlySupplied m w → AnswersSupplies m w y
 supplies-reported m w y told right = go (accepted (w .end)) told
   where
     R : Turn → Type 0
@@ -189,8 +195,8 @@ supplies-reported m w y told right = go (accepted (w .end)) told
     go : (b : Bool) → (T b → LinesOf (w .turns) (y .report .lines)) → All (λ (u : Turn). T (passed (u .turned .mixing)) → RightlySupplied m u (cond b (getD (y .report .lines) (u .heater) zeroLine .supplied) (u .turned .supplied))) (w .turns)
     go false f = right
     go true f =
-        all-map (λ (u : Turn). R u × (getD (y .report .lines) (u .heater) zeroLine ≡ lineOf (u .turned))) (λ (u : Turn). T (passed (u .turned .mixing)) → RightlySupplied m u (getD (y .report .lines) (u .heater) zeroLine .supplied)) (λ u p t. rw (p .1) (p .0 t)) (w .turns)
-        (all-both R (λ (u : Turn). getD (y .report .lines) (u .heater) zeroLine ≡ lineOf (u .turned)) (w .turns) right (f tt))
+        all-map (λ (u : Turn). R u × LineTells u (getD (y .report .lines) (u .heater) zeroLine)) (λ (u : Turn). T (passed (u .turned .mixing)) → RightlySupplied m u (getD (y .report .lines) (u .heater) zeroLine .supplied)) (λ u p t. rw (p .1 .supplied) (p .0 t)) (w .turns)
+        (all-both R (λ (u : Turn). LineTells u (getD (y .report .lines) (u .heater) zeroLine)) (w .turns) right (f tt))
 
 all-answered : (calls : List Call) (t : StorageTank) (r : Report) → length (answers t r calls) ≡ length calls
 unfolding answers
@@ -215,22 +221,43 @@ module _ (m : TankDesign) where
   fitted-as-given zero z l = record { given = λ h k. clean-as-given _ _ (fitted-given (m .heaters) h (m .fitted) k (omega arith)); unused = λ h k. fitted-unused (m .heaters) h (m .fitted) k }
   fitted-as-given (suc n) z l = absurd (omega arith)
 
+  no-tank : (n : ℕ) → 0 < n → NoTank (holding m n (start m))
+  no-tank zero l = absurd (not-suc-le-zero l)
+  no-tank (suc n) l = record {
+    layers = refl;
+    heaters = refl;
+    volume = refl;
+    standby = refl;
+    rho = refl;
+    cp = refl;
+    ambient = refl;
+    timestep = refl;
+    temps = refl;
+    fitted = refl;
+    flags = refl;
+  }
+
   pub demand3 : (r : Report) (calls : List Call) → Demand3 m calls (made m) (answers (made m .tank) r calls)
   unfolding history
   demand3 r calls = rw (made-is .1) (record {
     worked = worked;
-    flags = λ h. rw (last-is m n fits calls (start m) r, held-flags m n calls) (worked .flags h);
+    flags = λ h. rw (last-is m n fits calls (start m) r, held-flags m n calls) (subst (λ (ws : List Work). T (getD (carried (start m) ws .flags) h false) ↔ OnSince h works) (take-all (length calls) works (omega (arith, worked .works-all))) (worked .flags h));
     supplies = λ i l. supplies-reported m (getD (run (workOf m n) (start m) calls) i noWork) (getD (answers (holding m n (start m)) r calls) i noAnswer) (reported i l) (worked .supplies i l);
     reported = reported;
+    totals = each m n fits TotalsAre totals-one calls (start m) r;
     numbers = λ i l. each m n fits NumberIs number-one calls (start m) r i l (worked .refusals i l);
-    makes = (made-is .0, refl);
+    makes = unfold carried in (made-is .0, refl);
     fitted = λ e. fitted-as-given n e (fits e);
+    refused-make = no-tank n;
     carries = carries-on m n fits calls (start m) r;
     answers-all = all-answered calls (holding m n (start m)) r;
   })
     where
       n : ℕ
       n = designRefusal m
+
+      works : List Work
+      works = run (workOf m n) (start m) calls
 
       worked : HistoryDemand m calls
       worked = history-demand m calls

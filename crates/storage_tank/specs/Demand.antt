@@ -6,26 +6,47 @@ use mathlib.Core.List.{List, [], _∷_}
 use mathlib.Core.Bool.{false, not, cond}
 use Prim.Native.Nat.{ℕ, zero, suc, _≤_, _<_}
 use lib.Dec.{T}
-use lib.ListN.{length, getD, take}
+use lib.ListN.{length, getD, replicate}
 use lib.Ieee.{Float}
 use Rattle.numeric.specs.Double.{zero-f}
 use Rattle.tank_model.specs.declared.Heater.{Heater}
 use Rattle.tank_model.specs.declared.TankDesign.{TankDesign}
 use Rattle.tank_model.specs.Fixed.{State, noHeater}
-use Rattle.tank_model.specs.Work.{Turn, Work, lineOf, zeroLine}
-use Rattle.tank_model.specs.History.{Call, designRefusal, start, carried, history}
+use Rattle.tank_model.specs.Work.{Progress, Turn, done, Work, zeroLine}
+use Rattle.tank_model.specs.History.{Call, designRefusal, history}
 use Rattle.tank_model.specs.Members.{All}
-use Rattle.tank_model.specs.Course.{accepted, numberOf}
-use Rattle.tank_model.specs.HistoryDemand.{passed, RightlySupplied, noWork, OnSince, HistoryDemand}
+use Rattle.tank_model.specs.Course.{accepted, numberOf, passed, LineTells, recoverableOf}
+use Rattle.tank_model.specs.HistoryDemand.{RightlySupplied, OnSince, workAt, stateAt, HistoryDemand}
 use Rattle.storage_tank.specs.declared.StorageTank.{StorageTank}
 use Rattle.storage_tank.specs.declared.Report.{Report}
 use Rattle.storage_tank.specs.declared.Made.{Made}
 use Rattle.storage_tank.specs.declared.Stepped.{Stepped}
 use Rattle.storage_tank.specs.Calls.{zeroHeater, fittedHeaters, zeroTank, answered}
 
+-- ---- of one call's work and what it answered
+
 -- what a turn supplied: read in the report of an accepted step, and else as worked
 abbrev pub suppliedIn : Work → Stepped → Turn → Float
 suppliedIn w x u = cond (accepted (w .end)) (getD (x .report .lines) (u .heater) zeroLine .supplied) (u .turned .supplied)
+
+-- every turn that got past its mixing supplied zero if it ran off, and never more than its rated power × step length
+abbrev pub AnswersSupplies : TankDesign → Work → Stepped → Type 0
+AnswersSupplies m w x = All (λ (u : Turn). T (passed (u .turned .mixing)) → RightlySupplied m u (suppliedIn w x u)) (w .turns)
+
+-- the report has at the heater's given place the line of its turn
+abbrev pub AnswersLines : Work → Stepped → Type 0
+AnswersLines w x = All (λ (u : Turn). LineTells u (getD (x .report .lines) (u .heater) zeroLine)) (w .turns)
+
+-- the report has the totals that the work came to: energy, volume used, average, and the heaters' losses × 0.75
+pub record AnswersTotals (s : Progress) (r : Report) : Type 0 where
+  pub energy : r .energy ≡ s .totals .energy
+  pub used : r .used ≡ s .totals .used
+  pub average : r .average ≡ s .average
+  pub recoverable : r .recoverable ≡ recoverableOf s
+
+-- the number answered is that of the work's end, and 0 exactly when the step is accepted
+abbrev pub AnswersNumber : Work → Stepped → Type 0
+AnswersNumber w x = (x .number ≡ numberOf (w .end)) × (T (accepted (w .end)) ↔ (x .number ≡ 0))
 
 -- ---- of a list of calls
 
@@ -52,7 +73,21 @@ tankOf m st = record {
   flags = st .flags;
 }
 
--- n: what make is refused for, or 0. A refused make gives a tank of no layers, no heaters and zeros
+-- a tank of no layers, no heaters and zeros
+pub record NoTank (t : StorageTank) : Type 0 where
+  pub layers : t .layers ≡ 0
+  pub heaters : t .heaters ≡ 0
+  pub volume : t .volume ≡ zero-f
+  pub standby : t .standby ≡ zero-f
+  pub rho : t .rho ≡ zero-f
+  pub cp : t .cp ≡ zero-f
+  pub ambient : t .ambient ≡ zero-f
+  pub timestep : t .timestep ≡ zero-f
+  pub temps : t .temps ≡ replicate 32 zero-f
+  pub fitted : t .fitted ≡ replicate 8 (record { rated = zero-f; position = zero-f; «has_thermostat» = false; thermostat = zero-f })
+  pub flags : t .flags ≡ replicate 8 false
+
+-- n: what make is refused for, or 0. A refused make gives a tank of zeros
 abbrev pub holding : TankDesign → ℕ → State → StorageTank
 holding m zero st = tankOf m st
 holding m (suc n) st = zeroTank
@@ -77,15 +112,17 @@ pub record Demand3 (m : TankDesign) (calls : List Call) (made : Made) (xs : List
   -- after the list, in the tank that was handed back, a flag is on exactly when 01 says
   pub flags : (h : ℕ) → T (getD (lastTank (made .tank) xs .flags) h false) ↔ OnSince h (history m calls)
   -- every turn, in refused steps too as far as it got, supplied zero if it ran off and never more than its rated power × step length
-  pub supplies : (i : ℕ) → i < length calls → let w = getD (history m calls) i noWork in All (λ (u : Turn). T (passed (u .turned .mixing)) → RightlySupplied m u (suppliedIn w (getD xs i noAnswer) u)) (w .turns)
-  -- an accepted step's report has at the heater's given place the line of its turn
-  pub reported : (i : ℕ) → i < length calls → let w = getD (history m calls) i noWork in T (accepted (w .end)) → All (λ (u : Turn). getD (getD xs i noAnswer .report .lines) (u .heater) zeroLine ≡ lineOf (u .turned)) (w .turns)
+  pub supplies : (i : ℕ) → i < length calls → AnswersSupplies m (workAt m calls i) (getD xs i noAnswer)
+  -- an accepted step's report has at the heater's given place the line of its turn, and the totals of its work
+  pub reported : (i : ℕ) → i < length calls → T (accepted (workAt m calls i .end)) → AnswersLines (workAt m calls i) (getD xs i noAnswer)
+  pub totals : (i : ℕ) → i < length calls → (s : Progress) → workAt m calls i .end ≡ done s → AnswersTotals s (getD xs i noAnswer .report)
   -- the number answered is that of the work's end, and 0 exactly when the step is accepted
-  pub numbers : (i : ℕ) → i < length calls → let w = getD (history m calls) i noWork in (getD xs i noAnswer .number ≡ numberOf (w .end)) × (T (accepted (w .end)) ↔ (getD xs i noAnswer .number ≡ 0))
+  pub numbers : (i : ℕ) → i < length calls → AnswersNumber (workAt m calls i) (getD xs i noAnswer)
   -- the tanks handed back hold make's own numbers and the state that was worked
-  pub makes : (made .number ≡ designRefusal m) × (made .tank ≡ holding m (designRefusal m) (start m))
+  pub makes : (made .number ≡ designRefusal m) × (made .tank ≡ holding m (designRefusal m) (stateAt m calls 0))
   pub fitted : designRefusal m ≡ 0 → FittedAsGiven m (made .tank)
-  pub carries : (i : ℕ) → i < length calls → getD xs i noAnswer .tank ≡ holding m (designRefusal m) (carried (start m) (take (suc i) (history m calls)))
+  pub refused-make : 0 < designRefusal m → NoTank (made .tank)
+  pub carries : (i : ℕ) → i < length calls → getD xs i noAnswer .tank ≡ holding m (designRefusal m) (stateAt m calls (suc i))
   pub answers-all : length xs ≡ length calls
 
 -- what the calls promise of the answers xs, from a tank t and a report r on: each is what its call answers, given what the one before returned
