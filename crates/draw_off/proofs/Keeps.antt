@@ -103,7 +103,7 @@ event-keeps c feed wanted temps t =
     let filled = refill (c .layers) (layerVolumes c) feed temps held in
     keeps-trans (c .layers) temps (filled .temps) _ (refill-keeps-temps (c .layers) (layerVolumes c) feed temps held) (mixing-keeps (filled .mixes) c (filled .temps))
 
-pub events-keep : (c : Cylinder) (feed : Float) (vs : List Float) (n : ℕ) (temps : List Float) (t : Totals) → Keeps (c .layers) temps (drawAll c feed vs n temps t .temps)
+pub events-keep : (c : Cylinder) (feed : Float) (vs : List Float) (n : ℕ) (temps : List Float) (t : Totals) → Keeps (c .layers) temps (drawAll c feed vs n temps t .end .temps)
 unfolding drawAll
 events-keep c feed [] n temps t = keeps-self (c .layers) temps
 events-keep c feed (v ∷ vs) (suc n) temps t = keeps-self (c .layers) temps

@@ -20,7 +20,7 @@ use Rattle.draw_off.specs.Draw.{Draw, drawLayers, drawFeed, extract, vol
 use Rattle.draw_off.specs.Refill.{refillLayers, refill}
 use Rattle.draw_off.specs.Event.{unmixed, eventMixing, eventOf, tempsAfterEvent, totalsAfterEvent, drawAll}
 
-pub no-events : (c : Cylinder) (feed : Float) (temps : List Float) (t : Totals) → drawAll c feed [] 0 temps t ≡ record { number = 0; temps = temps; totals = t }
+pub no-events : (c : Cylinder) (feed : Float) (temps : List Float) (t : Totals) → drawAll c feed [] 0 temps t .end ≡ record { number = 0; temps = temps; totals = t }
 unfolding drawAll
 no-events c feed temps t = refl
 

@@ -1,5 +1,5 @@
--- States one draw event as a whole, and the events of a step in a row (01, Draw; Refill; refusals 9 and 10): the draw, the refill, the mixing that a warm feed asks
--- for, and the number with which the event ends the step, or 0.
+-- States one draw event as a whole, and the events of a step in a row (01, Draw; Refill; refusals 9 and 10): the draw, the refill, the mixing that a warm feed
+-- asks for, and the number with which the event ends the step, or 0.
 use Prim.Native.Nat.{ℕ, zero, suc}
 use mathlib.Core.Bool.{Bool, true, false, cond, _&&_}
 use mathlib.Core.List.{List, [], _∷_}
@@ -76,10 +76,20 @@ pub record Drawing : Type 0 where
   pub temps : List Float
   pub totals : Totals
 
--- the events of the volumes vs, from there on; a refused event ends them
-unfoldable pub drawAll : Cylinder → Float → List Float → ℕ → List Float → Totals → Drawing
-drawAll c feed [] n temps t = record { number = n; temps = temps; totals = t }
-drawAll c feed (v ∷ vs) (suc n) temps t = record { number = suc n; temps = temps; totals = t }
+-- the events that were worked, and where they came to
+pub record Drawings : Type 0 where
+  pub events : List Event
+  pub end : Drawing
+
+-- no event more, where those before came to d
+abbrev pub noMore : Drawing → Drawings
+noMore d = record { events = []; end = d }
+
+-- the events of the volumes vs, from where those before them came to; a refused event ends them
+unfoldable pub drawAll : Cylinder → Float → List Float → ℕ → List Float → Totals → Drawings
+drawAll c feed [] n temps t = noMore (record { number = n; temps = temps; totals = t })
+drawAll c feed (v ∷ vs) (suc n) temps t = noMore (record { number = suc n; temps = temps; totals = t })
 drawAll c feed (v ∷ vs) zero temps t =
     let e = eventOf c feed v temps t in
-    drawAll c feed vs (eventNumber c e t) (tempsAfterEvent e) (totalsAfterEvent c e t)
+    let rest = drawAll c feed vs (eventNumber c e t) (tempsAfterEvent e) (totalsAfterEvent c e t) in
+    record { events = e ∷ rest .events; end = rest .end }

@@ -129,7 +129,7 @@ pub fn draw_events(
     totals: Totals,
 ) -> EventAnswer
     requires { ⌜ (1 ≤ c .layers) × (c .layers ≤ maxLayers) × (now vol ≡ layerVolumes c) × (n ≤ maxEvents) ⌝ }
-    ensures { λ r. ⌜ drawingOf (now (temps .exit)) r ≡ drawAll c feed (tabulate (λ (i : ℕ). getD (now (volumes .entry)) i nan) n 0) 0 (now (temps .entry)) totals ⌝ }
+    ensures { λ r. ⌜ drawingOf (now (temps .exit)) r ≡ drawAll c feed (tabulate (λ (i : ℕ). getD (now (volumes .entry)) i nan) n 0) 0 (now (temps .entry)) totals .end ⌝ }
 {
     let mut t = totals;
     let mut kept = crate::kept::sum_of_none();

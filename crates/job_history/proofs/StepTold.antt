@@ -26,7 +26,6 @@ use Rattle.tank_model.specs.Work.{Progress, Turn, End, refused, done, resume, a
 use Rattle.tank_model.proofs.Order.{many-placed, placed-at, order-below}
 use Rattle.tank_arrays.proofs.FirstRefusal.{step-counts}
 use Rattle.step_work.specs.Lent.{noTotals}
-use Rattle.step_work.proofs.StepWorked.{events-end}
 use Rattle.storage_tank.specs.declared.StorageTank.{StorageTank}
 use Rattle.storage_tank.specs.Tank.{fixedIn, stateIn}
 use Rattle.job_history.specs.declared.TurnFact.{TurnFact}
@@ -54,16 +53,6 @@ module _ (c : Cylinder) (n : ℕ) (fitted : List Heater) (a : Step) where
 
 -- ---- the step
 
--- events have no turns
-events-turns : (c : Cylinder) (feed : Float) (vs : List Float) (s : Progress) → events c feed vs s .turns ≡ []
-unfolding events andThen event
-events-turns c feed [] s = refl
-events-turns c feed (v ∷ vs) s = go _ _ (λ s'. events-turns c feed vs s')
-  where
-    go : (es : List Event) (e : End) → ((s' : Progress) → events c feed vs s' .turns ≡ []) → resume es [] e (λ s'. events c feed vs s') .turns ≡ []
-    go es (refused n) ih = unfold resume in refl
-    go es (done s') ih = unfold resume in (ih s')
-
 module _ (t : StorageTank) (a : Step) where
   abbrev c : Cylinder
   c = fixedIn t .cylinder
@@ -80,17 +69,17 @@ module _ (t : StorageTank) (a : Step) where
       go zero n = absurd (n refl)
       go (suc k) n = unfold begin factsOf in refl
 
-  module _ (passed : stepRefusal (fixedIn t) (stateIn t) a ≡ 0) (first : List Float) (d : EventAnswer) (drawn : drawingOf first d ≡ drawAll c (a .feed) (wantedVolumes a) 0 (t .temps) noTotals) where
+  module _ (passed : stepRefusal (fixedIn t) (stateIn t) a ≡ 0) (first : List Float) (d : EventAnswer) (drawn : drawingOf first d ≡ drawAll c (a .feed) (wantedVolumes a) 0 (t .temps) noTotals .end) where
     -- what the events leave to the turns
     abbrev after : End → List TurnFact
     after e = factsOf (resume [] [] e (λ s. allTurns (fixedIn t) a s) .turns)
 
     from-events : stepTurns t a ≡ after (endBy (d .number) (withDraw first (d .totals) (opening (stateIn t))))
-    unfolding stepTurns work begin andThen
+    unfolding stepTurns work begin andThen events
     from-events =
         rw passed
-        (go _ (events c (a .feed) (wantedVolumes a) (opening (stateIn t)) .turns) (events c (a .feed) (wantedVolumes a) (opening (stateIn t)) .end) (events-turns c (a .feed) (wantedVolumes a) (opening (stateIn t)))
-        ∙ ap after (events-end c (a .feed) (wantedVolumes a) (opening (stateIn t)) ∙ ap (λ (x : Drawing). endBy (x .number) (withDraw (x .temps) (x .totals) (opening (stateIn t)))) (unfold opening in (sym drawn))))
+        (go _ [] (events c (a .feed) (wantedVolumes a) (opening (stateIn t)) .end) refl
+        ∙ ap after (ap (λ (x : Drawing). endBy (x .number) (withDraw (x .temps) (x .totals) (opening (stateIn t)))) (unfold opening in (sym drawn))))
       where
         go : (es : List Event) (us : List Turn) (e : End) → us ≡ [] → factsOf (resume es us e (λ s. allTurns (fixedIn t) a s) .turns) ≡ after e
         go es us (refused n) z = unfold resume in (ap factsOf z)

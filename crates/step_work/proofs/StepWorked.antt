@@ -13,41 +13,21 @@ use Rattle.cylinder.specs.declared.Cylinder.{Cylinder}
 use Rattle.draw_off.specs.declared.Totals.{Totals}
 use Rattle.draw_off.specs.declared.event.EventAnswer.{EventAnswer}
 use Rattle.draw_off.specs.Lent.{drawingOf}
-use Rattle.draw_off.specs.Event.{Event, Drawing, eventOf, tempsAfterEvent, totalsAfterEvent, eventNumber, drawAll}
+use Rattle.draw_off.specs.Event.{Event, Drawing, drawAll}
 use Rattle.tank_model.specs.declared.HeaterLine.{HeaterLine}
 use Rattle.tank_model.specs.declared.Step.{Step}
 use Rattle.tank_model.specs.Fixed.{Fixed, State}
 use Rattle.tank_model.specs.Order.{workingOrder}
 use Rattle.tank_model.specs.Checks.{stepRefusal}
-use Rattle.tank_model.specs.Work.{Progress, Turn, End, refused, done, resume, andThen, endBy, withDraw, afterEvent, event, events, wantedVolumes, averageOf, withAverage, turnOf, heaterTurn, turns, allTurns, opening, recoverable, closed, begin, work}
+use Rattle.tank_model.specs.Work.{Progress, Turn, End, refused, done, resume, andThen, endBy, withDraw, events, wantedVolumes, averageOf, withAverage, turnOf, heaterTurn, turns, allTurns, opening, recoverable, closed, begin, work}
 use Rattle.tank_arrays.specs.Arrays.{ZeroLines}
 use Rattle.tank_arrays.proofs.LentArrays.{zero-lines}
 use Rattle.step_work.specs.declared.work.WorkAnswer.{WorkAnswer}
 use Rattle.step_work.specs.Lent.{Heated, settingsOnly, noTurns, heatedIn, unheated, progressOf, noTotals, StepWorked}
 
--- ---- the events
-
-drawn-refused-all : (c : Cylinder) (feed : Float) (vs : List Float) (n : ℕ) (temps : List Float) (t : Totals) → drawAll c feed vs (suc n) temps t ≡ record { number = suc n; temps = temps; totals = t }
-unfolding drawAll
-drawn-refused-all c feed [] n temps t = refl
-drawn-refused-all c feed (v ∷ vs) n temps t = refl
-
+-- where the events, which came to d, leave the step
 abbrev drawnEnd : Drawing → Progress → End
 drawnEnd d s = endBy (d .number) (withDraw (d .temps) (d .totals) s)
-
--- the events end where the code's loop over them does
-pub events-end : (c : Cylinder) (feed : Float) (vs : List Float) (s : Progress) → events c feed vs s .end ≡ drawnEnd (drawAll c feed vs 0 (s .temps) (s .totals)) s
-unfolding events andThen event drawAll
-events-end c feed [] s = unfold endBy in refl
-events-end c feed (v ∷ vs) s = go (eventNumber c e (s .totals)) (λ s'. events-end c feed vs s')
-  where
-    e : Event
-    e = eventOf c feed v (s .temps) (s .totals)
-
-    go : (n : ℕ) → ((s' : Progress) → events c feed vs s' .end ≡ drawnEnd (drawAll c feed vs 0 (s' .temps) (s' .totals)) s')
-        → resume (e ∷ []) [] (endBy n (afterEvent c e s)) (λ s'. events c feed vs s') .end ≡ drawnEnd (drawAll c feed vs n (tempsAfterEvent e) (totalsAfterEvent c e (s .totals))) s
-    go zero ih = unfold resume endBy afterEvent in (ih (afterEvent c e s))
-    go (suc n) ih = unfold resume endBy in (sym (ap (λ (d : Drawing). drawnEnd d s) (drawn-refused-all c feed vs n (tempsAfterEvent e) (totalsAfterEvent c e (s .totals)))))
 
 -- ---- the turns look at the settings alone
 
@@ -99,13 +79,13 @@ module _ (f : Fixed) (st : State) (a : Step) where
     end-only es us (done s) = refl
 
     -- `first` are the layers that the events leave, d what they answer
-    module _ (first : List Float) (d : EventAnswer) (drawn : drawingOf first d ≡ drawAll c (a .feed) (wantedVolumes a) 0 (st .temps) noTotals) where
+    module _ (first : List Float) (d : EventAnswer) (drawn : drawingOf first d ≡ drawAll c (a .feed) (wantedVolumes a) 0 (st .temps) noTotals .end) where
       end-is : work f st a .end ≡ after (drawnEnd (drawingOf first d) (opening st))
-      unfolding work begin andThen
+      unfolding work begin andThen events
       end-is =
           rw passed
           (end-only _ _ (events c (a .feed) (wantedVolumes a) (opening st) .end)
-          ∙ ap after (events-end c (a .feed) (wantedVolumes a) (opening st) ∙ ap (λ (x : Drawing). drawnEnd x (opening st)) (unfold opening in (sym drawn))))
+          ∙ ap after (ap (λ (x : Drawing). drawnEnd x (opening st)) (unfold opening in (sym drawn))))
 
       pub drawn-refused : (d .number ≡ 0 → ⊥) → work f st a .end ≡ refused (d .number)
       drawn-refused n = end-is ∙ go (d .number) n (withDraw first (d .totals) (opening st))

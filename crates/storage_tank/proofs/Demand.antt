@@ -32,7 +32,7 @@ use Rattle.storage_tank.specs.declared.Made.{Made}
 use Rattle.storage_tank.specs.declared.Stepped.{Stepped}
 use Rattle.storage_tank.specs.Tank.{fixedIn}
 use Rattle.storage_tank.specs.Calls.{zeroHeater, cleanHeater, fittedHeaters, madeOf, made, answer, stepped, answered, answers}
-use Rattle.storage_tank.specs.Demand.{suppliedIn, AnswersSupplies, AnswersTotals, AnswersNumber, noAnswer, lastTank, tankOf, NoTank, holding, AsGiven, FittedAsGiven, Demand3, Promises}
+use Rattle.storage_tank.specs.Demand.{AnswersSupplies, AnswersTotals, AnswersNumber, noAnswer, lastTank, tankOf, NoTank, holding, AsGiven, FittedAsGiven, Demand3, Promises}
 
 -- ---- a tank that holds make's numbers is read as make's arguments
 

@@ -26,7 +26,6 @@ use Rattle.tank_model.specs.Work.{Progress, Turn, End, refused, done, Work, res
 use Rattle.tank_model.specs.History.{Call, step, designRefusal}
 use Rattle.tank_model.specs.Members.{All}
 use Rattle.tank_model.proofs.Order.{many-placed, order-below}
-use Rattle.step_work.proofs.StepWorked.{events-end}
 use Rattle.storage_tank.specs.declared.StorageTank.{StorageTank}
 use Rattle.storage_tank.specs.declared.Report.{Report}
 use Rattle.storage_tank.specs.Tank.{fixedIn, stateIn}
@@ -82,10 +81,8 @@ module _ (f : Fixed) (a : Step) (st : State) where
   average-left s k = record { temps = k .temps; flags = k .flags; lines = k .lines }
 
   events-left : Left Kept (events (f .cylinder) (a .feed) (wantedVolumes a) (opening st) .end)
-  unfolding opening
-  events-left =
-      subst (λ (e : End). Left Kept e) (sym (events-end (f .cylinder) (a .feed) (wantedVolumes a) (opening st)))
-      (left-by Kept _ _ (record { temps = events-keep (f .cylinder) (a .feed) (wantedVolumes a) 0 (st .temps) _; flags = refl; lines = λ h l. zero-lines maxHeaters h }))
+  unfolding events opening
+  events-left = left-by Kept _ _ (record { temps = events-keep (f .cylinder) (a .feed) (wantedVolumes a) 0 (st .temps) _; flags = refl; lines = λ h l. zero-lines maxHeaters h })
 
   closed-left : (e : End) → Left Kept e → Left Kept (closed e)
   unfolding closed
@@ -130,7 +127,7 @@ unfolding work
 refused-above f a st = go (stepRefusal f st a)
   where
     events-above : Above (events (f .cylinder) (a .feed) (wantedVolumes a) (opening st) .end)
-    events-above = subst Above (sym (events-end (f .cylinder) (a .feed) (wantedVolumes a) (opening st))) (above-by _ _)
+    events-above = unfold events in (above-by _ _)
 
     go : (n : ℕ) → Above (begin f st a n .end)
     go (suc n) = unfold begin in (omega arith)

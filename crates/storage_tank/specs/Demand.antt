@@ -1,5 +1,6 @@
 -- States demand 3: what the arguments of make and of a list of calls say of what was answered. It cites the history that 01 works on a tank of its own
--- (tank_model/specs/HistoryDemand.antt), and neither make's nor step's answer; `Promises`, at the end, says what the calls promise. proofs/Demand.antt proves it of every list.
+-- (tank_model/specs/HistoryDemand.antt), and neither make's nor step's answer; `Promises`, at the end, says what the calls promise. proofs/Demand.antt proves
+-- it of every list.
 use mathlib.Core.Path.{_≡_}
 use mathlib.Core.Logic.{_↔_}
 use mathlib.Core.List.{List, [], _∷_}

@@ -1,6 +1,6 @@
 -- Proves that a step's work takes the course that demand 3 states (01, Step; Turn).
 use mathlib.Core.Path.{_≡_, refl, sym, ap, _∙_, subst}
-use mathlib.Core.Logic.{inl, inr, ⊎-elim, _≢_}
+use mathlib.Core.Logic.{_⊎_, inl, inr, ⊎-elim, _≢_}
 use mathlib.Core.List.{List, [], _∷_, append-nil}
 use mathlib.Core.Bool.{Bool, true, false}
 use Prim.Native.Nat.{ℕ, zero, suc, _<_, _≤_}
@@ -11,7 +11,7 @@ use lib.Seq.{getD-set-other}
 use lib.Ieee.{Float}
 use Rattle.mixing.specs.Rearrange.{Mixing, rearrange}
 use Rattle.cylinder.specs.Layers.{layerVolume, layerVolumes, allFinite}
-use Rattle.draw_off.specs.Event.{Event, unmixed, mixed, eventMixing, eventOf, eventNumber}
+use Rattle.draw_off.specs.Event.{Event, unmixed, mixed, eventMixing, eventOf, drawAll}
 use Rattle.heating.specs.Turn.{turnNumber}
 use Rattle.working_order.specs.Order.{maxHeaters}
 use Rattle.tank_model.specs.declared.TankDesign.{TankDesign}
@@ -19,7 +19,7 @@ use Rattle.tank_model.specs.declared.Step.{Step}
 use Rattle.tank_model.specs.Fixed.{State, fixedOf}
 use Rattle.tank_model.specs.Order.{workingOrder}
 use Rattle.tank_model.specs.Checks.{stepChecks, stepRefusal}
-use Rattle.tank_model.specs.Work.{Progress, Turn, End, refused, done, Work, resume, andThen, endBy, event, events, wantedVolumes, withAverage, afterEvent, turnOf, afterTurn, heaterTurn, turns, allTurns, opening, closed, closing, begin, work}
+use Rattle.tank_model.specs.Work.{Progress, Turn, End, refused, done, Work, resume, andThen, endBy, withDraw, events, wantedVolumes, withAverage, turnOf, afterTurn, heaterTurn, turns, allTurns, opening, closed, closing, begin, work}
 use Rattle.tank_model.specs.Members.{All, Distinct}
 use Rattle.tank_model.specs.Arguments.{cylinderOf, volumesOf}
 use Rattle.tank_model.specs.Course.{MixingOf, EventOf, EventDraws, EventPart, TurnDraws, TurnPart, InSequence, Averages, Closes, Turns, EventsThenTurns, Course}
@@ -30,7 +30,7 @@ use Rattle.tank_model.proofs.Steps.{Reach, end-reach}
 use Rattle.tank_model.proofs.TurnFacts.{turn-of}
 use Rattle.tank_model.proofs.Works.{tank-passes}
 use Rattle.tank_model.proofs.Refusals.{step-refused-as}
-use Rattle.tank_model.proofs.Parts.{event-leaves, event-draws, turn-leaves, turn-draws, opens, averages, closes}
+use Rattle.tank_model.proofs.Parts.{afterEvent, event-leaves, event-draws, turn-leaves, turn-draws, opens, averages, closes}
 
 -- ---- parts of the work in a row
 
@@ -51,13 +51,6 @@ module _ {K P : Type 0} (Part : K → Progress → P → Progress → Type 0) (D
     ⊎-elim (λ x. inl (x .0, ran-map A B S S' f g ks ps (r .0) (x .1))) (λ x. inr (x .0, x .1, x .2, g (x .0) (x .3), x .4)) (r .2),
   )
 
-event-first : (Part : Float → Progress → Event → Progress → Type 0) (Draws : Event → Progress → ℕ → Type 0) (v : Float) (vs : List Float) (s : Progress) (d : Event) (s' : Progress) (f : Progress → Work) (n : ℕ)
-    → Part v s d s' → Draws d s' n → RanTo Part Draws s' vs (f s' .events) (f s' .end)
-    → RanTo Part Draws s (v ∷ vs) (resume (d ∷ []) [] (endBy n s') f .events) (resume (d ∷ []) [] (endBy n s') f .end)
-unfolding endBy resume
-event-first Part Draws v vs s d s' f zero o q r = (s', o, inl (q, r))
-event-first Part Draws v vs s d s' f (suc n) o q r = (s', o, inr (suc n, omega arith, q, refl, refl))
-
 turn-first : (Part : ℕ → Progress → Turn → Progress → Type 0) (Draws : Turn → Progress → ℕ → Type 0) (h : ℕ) (hs : List ℕ) (s : Progress) (d : Turn) (s' : Progress) (f : Progress → Work) (n : ℕ)
     → Part h s d s' → Draws d s' n → RanTo Part Draws s' hs (f s' .turns) (f s' .end)
     → RanTo Part Draws s (h ∷ hs) (resume [] (d ∷ []) (endBy n s') f .turns) (resume [] (d ∷ []) (endBy n s') f .end)
@@ -65,26 +58,13 @@ unfolding endBy resume
 turn-first Part Draws h hs s d s' f zero o q r = (s', o, inl (q, r))
 turn-first Part Draws h hs s d s' f (suc n) o q r = (s', o, inr (suc n, omega arith, q, refl, refl))
 
-no-turns : (es : List Event) (us : List Turn) (e : End) (f : Progress → Work) → us ≡ [] → ((s : Progress) → f s .turns ≡ []) → resume es us e f .turns ≡ []
-unfolding resume
-no-turns es us (refused n) f u k = u
-no-turns es us (done s) f u k = rw u (k s)
-
 no-events : (es : List Event) (us : List Turn) (e : End) (f : Progress → Work) → es ≡ [] → ((s : Progress) → f s .events ≡ []) → resume es us e f .events ≡ []
 unfolding resume
 no-events es us (refused n) f u k = u
 no-events es us (done s) f u k = rw u (k s)
 
-then-reach : (R R' : Progress → Type 0) (es : List Event) (us : List Turn) (e : End) (f : Progress → Work) → Reach R e → ((s : Progress) → R s → Reach R' (f s .end)) → Reach R' (resume es us e f .end)
-unfolding resume
-then-reach R R' es us (refused n) f r k = r
-then-reach R R' es us (done s) f r k = k s r
-
 module _ (m : TankDesign) (a : Step) where
   -- ---- the events
-
-  abbrev drawnBy : List Float → Progress → Work
-  drawnBy vs s = events (cylinderOf m) (a .feed) vs s
 
   mixing-mixed : (b : Bool) (temps : List Float) → T b → (x : Mixing) × (eventMixing b (cylinderOf m) temps ≡ mixed x) × MixingOf (m .layers) (volumesOf m) temps x
   unfolding eventMixing layerVolumes layerVolume
@@ -100,32 +80,38 @@ module _ (m : TankDesign) (a : Step) where
   unfolding eventOf layerVolumes layerVolume
   event-of v s = record { wanted = refl; before = refl; draw = refl; refill = refl; mixing = mixing-mixed _ _; no-mixing = mixing-unmixed _ _ }
 
-  events-ran : (vs : List Float) (s : Progress) → RanTo (EventPart m a) (EventDraws m) s vs (drawnBy vs s .events) (drawnBy vs s .end)
-  unfolding events andThen event
-  events-ran [] s = refl
-  events-ran (v ∷ vs) s =
-      let e = eventOf (cylinderOf m) (a .feed) v (s .temps) (s .totals) in
-      let s' = afterEvent (cylinderOf m) e s in
-      event-first (EventPart m a) (EventDraws m) v vs s e s' (λ x. drawnBy vs x) (eventNumber (cylinderOf m) e (s .totals)) (event-of v s, event-leaves m e s) (event-draws m e s) (events-ran vs s')
+  -- where the events of the volumes vs, from s, come to when those before them drew n
+  abbrev endFrom : List Float → ℕ → Progress → End
+  endFrom vs n s = let d = drawAll (cylinderOf m) (a .feed) vs n (s .temps) (s .totals) in endBy (d .end .number) (withDraw (d .end .temps) (d .end .totals) s)
 
-  events-turnless : (vs : List Float) (s : Progress) → drawnBy vs s .turns ≡ []
-  unfolding events andThen event
-  events-turnless [] s = refl
-  events-turnless (v ∷ vs) s = no-turns _ _ _ _ refl (λ s'. events-turnless vs s')
+  stopped : (vs : List Float) (n : ℕ) (s : Progress) → (drawAll (cylinderOf m) (a .feed) vs (suc n) (s .temps) (s .totals) .events ≡ []) × (endFrom vs (suc n) s ≡ refused (suc n))
+  unfolding drawAll endBy
+  stopped [] n s = (refl, refl)
+  stopped (v ∷ vs) n s = (refl, refl)
+
+  events-ran : (vs : List Float) (s : Progress) → RanTo (EventPart m a) (EventDraws m) s vs (drawAll (cylinderOf m) (a .feed) vs 0 (s .temps) (s .totals) .events) (endFrom vs 0 s)
+  unfolding drawAll
+  events-ran [] s = unfold endBy in refl
+  events-ran (v ∷ vs) s = (afterEvent m e s, (event-of v s, event-leaves m e s), go _ (event-draws m e s) (events-ran vs (afterEvent m e s)))
+    where
+      e : Event
+      e = eventOf (cylinderOf m) (a .feed) v (s .temps) (s .totals)
+
+      s' : Progress
+      s' = afterEvent m e s
+
+      events-of : ℕ → List Event
+      events-of n = drawAll (cylinderOf m) (a .feed) vs n (s' .temps) (s' .totals) .events
+
+      go : (n : ℕ) → EventDraws m e s' n → RanTo (EventPart m a) (EventDraws m) s' vs (events-of 0) (endFrom vs 0 s')
+          → (EventDraws m e s' 0 × RanTo (EventPart m a) (EventDraws m) s' vs (events-of n) (endFrom vs n s'))
+          ⊎ ((k : ℕ) × (0 < k) × EventDraws m e s' k × (endFrom vs n s' ≡ refused k) × (events-of n ≡ []))
+      go zero q r = inl (q, r)
+      go (suc n) q r = inr (suc n, omega arith, q, stopped vs n s' .1, stopped vs n s' .0)
 
   -- flags and lines as they were
   abbrev Kept : State → Progress → Type 0
   Kept st s = (s .flags ≡ st .flags) × (length (s .lines) ≡ maxHeaters)
-
-  event-kept : (e : Event) (st : State) (s : Progress) → Kept st s → Kept st (afterEvent (cylinderOf m) e s)
-  unfolding afterEvent
-  event-kept e st s q = q
-
-  events-kept : (st : State) (vs : List Float) (s : Progress) → Kept st s → Reach (Kept st) (drawnBy vs s .end)
-  unfolding events andThen event
-  events-kept st [] s q = q
-  events-kept st (v ∷ vs) s q =
-      then-reach (Kept st) (Kept st) _ _ _ _ (end-reach (Kept st) _ _ (λ z. event-kept _ st s q)) (λ s' q'. events-kept st vs s' q')
 
   -- ---- the turns
 
@@ -232,7 +218,12 @@ module _ (m : TankDesign) (a : Step) where
 
       go : (n : ℕ) → stepRefusal (fixedOf m) st a ≡ n → Course m st a (begin (fixedOf m) st a n)
       go (suc n) l = unfold begin in (inl (suc n, omega arith, step-refused-as m st a (suc n) .0 l, refl, refl, refl))
-      go zero l = unfold begin andThen in (
-          let w = drawnBy (wantedVolumes a) (opening st) in
-          inr (step-refused-as m st a 0 .0 l, (opening st, opens st,
-          then-turns (few-heaters st l) (w .events) (w .turns) (w .end) (events-ran (wantedVolumes a) (opening st)) (events-turnless (wantedVolumes a) (opening st)) (events-kept st (wantedVolumes a) (opening st) (unfold opening in (refl, refl))))))
+      go zero l = unfold begin andThen events in (
+          inr (
+            step-refused-as m st a 0 .0 l,
+            (
+              opening st,
+              opens st,
+              then-turns (few-heaters st l) _ [] _ (events-ran (wantedVolumes a) (opening st)) refl (end-reach (Kept st) _ _ (λ z. unfold opening in (refl, refl))),
+            ),
+          ))

@@ -1,7 +1,7 @@
 -- Proves what demand 3 says of the history of every list of calls (00, demand 3; 01, Turn): it holds of each call's work, and each begins where the one before ended.
 use mathlib.Core.Path.{_≡_, refl, sym, ap, _∙_, subst}
 use mathlib.Core.Logic.{_↔_}
-use mathlib.Core.List.{List, [], _∷_, _++_}
+use mathlib.Core.List.{List, [], _∷_}
 use mathlib.Core.Bool.{Bool, true, false, not, _&&_}
 use Prim.Native.Nat.{ℕ, zero, suc, _+_, _-_, _<_, _≤_}
 use native.Mathlib.Nat.{le-of-suc-le-suc, not-suc-le-zero}
@@ -22,7 +22,6 @@ use Rattle.tank_model.specs.Order.{workingOrder}
 use Rattle.tank_model.specs.Checks.{makeRefusal}
 use Rattle.tank_model.specs.Work.{Progress, Turn, End, refused, done, Work, lineOf, zeroLine, opening}
 use Rattle.tank_model.specs.History.{Call, step, designRefusal, start, carry, carried, workOf, run, history}
-use Rattle.tank_model.specs.Members.{All}
 use Rattle.tank_model.specs.Course.{accepted, LineTells}
 use Rattle.tank_model.specs.HistoryDemand.{Began, Ended, InTurn, MixedOrNine, AllRightlySupplied, AllTold, RefusedWithOne, noWork, noCall, OnSince, Starts, Carries, CourseOf, HistoryDemand}
 use Rattle.tank_model.proofs.Latch.{latchedBy, latched-since}

@@ -1,7 +1,6 @@
 -- Proves that the course of a list of calls leaves no choice (00, demand 3; 01, Turn): two families of works and states that take one list's course have the same states,
 -- and works that are alike, call by call. So a history that met demand 3 and was another one could not be told apart by any answer.
-use mathlib.Core.Path.{_≡_, refl, sym, _∙_, subst}
-use mathlib.Core.Logic.{⊎-elim}
+use mathlib.Core.Path.{_≡_, sym, _∙_, subst}
 use mathlib.Core.List.{List}
 use mathlib.Core.Bool.{Bool, true, false, not}
 use Prim.Native.Nat.{ℕ, zero, suc, _<_, _≤_}

@@ -3,14 +3,14 @@ use mathlib.Core.Path.{_≡_, refl, sym, _∙_, subst}
 use mathlib.Core.Logic.{_↔_}
 use mathlib.Core.List.{List}
 use mathlib.Core.Bool.{Bool, true, false, true≢false}
-use Prim.Native.Nat.{ℕ, _-_, _<_, _≤_}
+use Prim.Native.Nat.{ℕ, _-_}
 use native.Mathlib.Omega.{arith}
 use lib.Dec.{T}
 use lib.Ieee.{Float}
 use lib.Ieee.Bits.{is-true}
 use Rattle.mixing.specs.Rearrange.{Mixing, sorted, unsorted, rises, isSorted, afterRounds, rearrange}
 use Rattle.mixing.proofs.Order.{accepted-iff, refused-iff}
-use Rattle.tank_model.specs.Course.{Nondecreasing, InOrderAfter, MixingOf}
+use Rattle.tank_model.specs.Course.{Nondecreasing, MixingOf}
 use Rattle.tank_model.proofs.Sentences.{itself, each-says}
 
 order-says : (n : ℕ) (temps : List Float) → T (isSorted n temps) ↔ Nondecreasing n temps

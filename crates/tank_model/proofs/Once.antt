@@ -1,14 +1,14 @@
 -- Proves that the course of a step leaves no choice: two works that take one step's course from one state have the same events, turns that are alike as far as they
 -- got, and the same end, be it a number or the same layers, totals, average, flags, charges, losses and lines. So nothing that a step hands on is left unsaid.
 use mathlib.Core.Path.{_≡_, refl, sym, ap, ap₂, _∙_, subst}
-use mathlib.Core.Logic.{_⊎_, inl, inr, _↔_}
+use mathlib.Core.Logic.{_⊎_, inl, inr}
 use mathlib.Core.List.{List, [], _∷_, _++_}
 use mathlib.Core.Bool.{Bool, true, false}
 use Prim.Native.Nat.{ℕ, _<_}
 use native.Mathlib.Omega.{arith}
 use lib.Dec.{T}
 use lib.ListN.{set}
-use lib.Ieee.{Float, nan, lt}
+use lib.Ieee.{Float, lt}
 use Rattle.numeric.specs.Double.{zero-f}
 use Rattle.numeric.specs.Close.{wideClose}
 use Rattle.numeric.specs.Tabulate.{tabulate}
@@ -23,7 +23,7 @@ use Rattle.tank_model.specs.Order.{workingOrder}
 use Rattle.tank_model.specs.Work.{Progress, Turn, End, refused, Work}
 use Rattle.tank_model.specs.Arguments.{eventVolume, volumesOf}
 use Rattle.tank_model.specs.Refusals.{NotFinite, LayerNotFinite, tankSentences, stepSentences, StepRefusal}
-use Rattle.tank_model.specs.Course.{passed, MixingOf, EventOf, EventLeaves, EventNotFinite, EventDraws, EventPart, inputOf, FiguresOf, AfterMixing, TurnOf, LineTells, TurnLeaves, TurnNotFinite, TurnDraws, TurnPart, InSequence, Opens, Averages, Closes, Turns, EventsThenTurns, Course}
+use Rattle.tank_model.specs.Course.{passed, EventOf, EventLeaves, EventNotFinite, EventDraws, EventPart, inputOf, FiguresOf, AfterMixing, TurnOf, LineTells, TurnLeaves, TurnNotFinite, TurnDraws, TurnPart, InSequence, Opens, Averages, Closes, Turns, EventsThenTurns, Course}
 use Rattle.tank_model.proofs.Sentences.{same-test}
 use Rattle.tank_model.proofs.Refusals.{first-once}
 use Rattle.tank_model.proofs.Mixings.{mixing-once}

@@ -1,25 +1,21 @@
 -- Proves what events and turns hand on, and that the number which each draws is the one that demand 3's course states (01, Step; refusals 9 and 10).
 use mathlib.Core.Path.{_≡_, refl, sym, _∙_, subst}
-use mathlib.Core.Logic.{_⊎_, inl, inr}
-use mathlib.Core.List.{List, [], _∷_}
-use mathlib.Core.Bool.{Bool, true, false, cond, _&&_}
-use Prim.Native.Nat.{ℕ, _<_}
-use native.Mathlib.Omega.{arith}
+use mathlib.Core.Logic.{inl, inr}
+use mathlib.Core.List.{[], _∷_}
+use mathlib.Core.Bool.{Bool, cond}
+use Prim.Native.Nat.{_<_}
 use lib.ListN.{length}
-use lib.Ieee.{Float}
-use lib.Ieee.Scale.{finite}
 use lib.Ieee.Bits.{is-true}
 use Rattle.numeric.specs.Double.{zero-f}
 use Rattle.numeric.specs.Close.{wideClose}
 use Rattle.mixing.specs.Rearrange.{Mixing, sorted, unsorted}
-use Rattle.cylinder.specs.Layers.{allFinite}
 use Rattle.draw_off.specs.Event as Event
 use Rattle.draw_off.specs.Event.{Event, EventMixing, unmixed, mixed, tempsAfterEvent, totalsAfterEvent, eventFinite, eventNumber}
 use Rattle.heating.specs.Turn as Turn
 use Rattle.heating.specs.Turn.{turnFinite, turnNumber}
 use Rattle.tank_model.specs.declared.TankDesign.{TankDesign}
 use Rattle.tank_model.specs.Fixed.{State}
-use Rattle.tank_model.specs.Work.{Progress, Turn, done, endBy, afterEvent, averageOf, withAverage, lineOf, afterTurn, opening, recoverable, closed}
+use Rattle.tank_model.specs.Work.{Progress, Turn, done, endBy, withDraw, averageOf, withAverage, lineOf, afterTurn, opening, recoverable, closed}
 use Rattle.tank_model.specs.Arguments.{cylinderOf}
 use Rattle.tank_model.specs.Refusals.{FirstOf}
 use Rattle.tank_model.specs.Course.{EventLeaves, EventNotFinite, EventDraws, LineTells, TurnLeaves, TurnNotFinite, TurnDraws, Opens, Averages, recoverableOf, EndNotFinite, Closes}
@@ -38,12 +34,16 @@ EventUnsorted unmixed = ⊥
 EventUnsorted (mixed (sorted temps k)) = ⊥
 EventUnsorted (mixed unsorted) = Unit {0}
 
+-- where the work has come to after the event e from s
+abbrev pub afterEvent : TankDesign → Event → Progress → Progress
+afterEvent m e s = withDraw (tempsAfterEvent e) (totalsAfterEvent (cylinderOf m) e (s .totals)) s
+
 module _ (m : TankDesign) (e : Event) (s : Progress) where
   abbrev after : Progress
-  after = afterEvent (cylinderOf m) e s
+  after = afterEvent m e s
 
   pub event-leaves : EventLeaves m s e after
-  unfolding afterEvent tempsAfterEvent totalsAfterEvent
+  unfolding tempsAfterEvent totalsAfterEvent
   event-leaves = record {
     temps-mixed = λ a k q. rw q;
     temps-unmixed = λ q. rw q;
@@ -58,7 +58,7 @@ module _ (m : TankDesign) (e : Event) (s : Progress) where
   }
 
   event-fails : Fails (EventNotFinite m after) (eventFinite (cylinderOf m) (tempsAfterEvent e) (totalsAfterEvent (cylinderOf m) e (s .totals)))
-  unfolding afterEvent eventFinite
+  unfolding eventFinite
   event-fails =
       let t = totalsAfterEvent (cylinderOf m) e (s .totals) in
       fails-three (layers-fail m (tempsAfterEvent e)) (fails-finite (t .energy)) (fails-finite (t .used))

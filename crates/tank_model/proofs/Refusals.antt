@@ -2,7 +2,7 @@
 use mathlib.Core.Path.{_≡_, refl, sym, _∙_, subst}
 use mathlib.Core.Logic.{_↔_, _⊎_, inl, inr, ⊎-elim}
 use mathlib.Core.List.{List, [], _∷_, _++_}
-use mathlib.Core.Bool.{Bool, true, false, not, _&&_}
+use mathlib.Core.Bool.{Bool, _&&_}
 use Prim.Native.Nat.{ℕ, zero, suc, _<_}
 use native.Mathlib.Omega.{arith}
 use lib.Dec.{T, leb, eqb, lit<}
@@ -19,7 +19,7 @@ use Rattle.tank_model.specs.declared.TankDesign.{TankDesign}
 use Rattle.tank_model.specs.declared.Step.{Step}
 use Rattle.tank_model.specs.Fixed.{Placed, State, heaterOf, fixedOf}
 use Rattle.tank_model.specs.Checks.{unless, firstRefusal, isPositive, notNegative, isPosition, fairHeater, fairPoints, tankChecks, pointsOf, stepChecks, makeRefusal, stepRefusal}
-use Rattle.tank_model.specs.Arguments.{cylinderOf, eventVolume}
+use Rattle.tank_model.specs.Arguments.{eventVolume}
 use Rattle.tank_model.specs.Refusals.{NotFinite, BelowZero, NotFiniteAndAboveZero, NoPosition, LayerNotFinite, PlacesRefused, HeatersRefused, CountsRefused, BadPoints, FirstOf, tankSentences, stepSentences, MakeRefusal, StepRefusal}
 use Rattle.tank_model.proofs.Order.{heater-is, heaters-many}
 use Rattle.tank_model.proofs.Sentences.{Fails, passing, failing, fails-not, fails-test, fails-as, fails-two, fails-three, fails-four, fails-some, fails-le, fails-eq, fails-finite, fails-negative}

@@ -23,10 +23,6 @@ or-says true b = (λ t. inl tt, λ x. tt)
 or-says false true = (λ t. inr tt, λ x. tt)
 or-says false false = (λ t. absurd t, λ x. ⊎-elim (λ y. y) (λ y. y) x)
 
-pub not-says : (b : Bool) {P : Type 0} → T b ↔ P → T (not b) ↔ (¬ P)
-not-says true e = (λ t p. t, λ n. n (e .0 tt))
-not-says false e = (λ t p. e .1 p, λ n. tt)
-
 pub not-true : (b : Bool) → ¬ (T b) → b ≡ false
 not-true true n = absurd (n tt)
 not-true false n = refl

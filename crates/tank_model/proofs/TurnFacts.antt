@@ -34,7 +34,7 @@ use Rattle.tank_model.specs.Work.{Progress, Turn, endBy, turnOf, afterTu
 use Rattle.tank_model.specs.Arguments.{cylinderOf, volumesOf, ratedOf, heaterLayer, thermostatLayer, maxEnergy, HasUpper, AtOrUnderLower, UpperMissingOrReached}
 use Rattle.tank_model.specs.Course.{passed, MixingOf, TurnOf}
 use Rattle.tank_model.specs.HistoryDemand.{RightlySupplied}
-use Rattle.tank_model.proofs.Sentences.{itself, or-says, not-says, not-true}
+use Rattle.tank_model.proofs.Sentences.{itself, or-says, not-true}
 use Rattle.tank_model.proofs.Mixings.{mixing-of}
 use Rattle.tank_model.proofs.Order.{heater-is}
 use Rattle.tank_model.proofs.Steps.{Sorted, rearrange-sorted, end-reach, Meets, began, ended, Law, first-law}
@@ -163,16 +163,19 @@ module _ (m : TankDesign) (a : Step) where
         start = refl;
         ran = ran-by;
         mixing = subst (MixingOf (m .layers) (volumesOf m) (heatedOf h s)) (sym e) (mixing-is h s);
-        after-mixing = (record {
-          temps = refl;
-          charged = refl;
-          losses = refl;
-          no-input = adjusts-none _ _;
-          some-input = adjusts-some _ _;
-          none-asked = supplies-none _ _;
-          some-asked = supplies-some _ _;
-          flag = switched-off _ _ _;
-        }, refl);
+        after-mixing = (
+          record {
+            temps = refl;
+            charged = refl;
+            losses = refl;
+            no-input = adjusts-none _ _;
+            some-input = adjusts-some _ _;
+            none-asked = supplies-none _ _;
+            some-asked = supplies-some _ _;
+            flag = switched-off _ _ _;
+          },
+          refl,
+        );
         finish = refl;
       })
       go unsorted e = unfold afterMixing in (record {

@@ -14,15 +14,16 @@ use Rattle.numeric.specs.Holds.{holds, holds-at}
 use Rattle.mixing.specs.Limits.{maxLayers}
 use Rattle.mixing.specs.Rearrange.{sorted, unsorted}
 use Rattle.cylinder.specs.Layers.{allFinite}
+use Rattle.draw_off.specs.declared.Totals.{Totals}
 use Rattle.draw_off.specs.Event as Event
-use Rattle.draw_off.specs.Event.{Event, EventMixing, unmixed, mixed, eventMixing, eventOf, eventNumber}
+use Rattle.draw_off.specs.Event.{Event, EventMixing, Drawings, unmixed, mixed, eventMixing, eventOf, tempsAfterEvent, totalsAfterEvent, eventFinite, eventNumber, drawAll}
 use Rattle.working_order.specs.Order.{maxHeaters}
 use Rattle.tank_model.specs.declared.TankDesign.{TankDesign}
 use Rattle.tank_model.specs.declared.Step.{Step}
 use Rattle.tank_model.specs.Fixed.{Placed, Fixed, State, heaterOf, fixedOf}
 use Rattle.tank_model.specs.Order.{workingOrder}
 use Rattle.tank_model.specs.Checks.{firstRefusal, unless, isPositive, notNegative, isPosition, fairHeater, tankChecks, stepChecks, makeRefusal, stepRefusal}
-use Rattle.tank_model.specs.Work.{Progress, Turn, Work, andThen, endBy, event, events, wantedVolumes, withAverage, heaterTurn, turns, allTurns, afterEvent, opening, begin, work}
+use Rattle.tank_model.specs.Work.{Progress, Turn, refused, Work, andThen, endBy, events, wantedVolumes, withAverage, heaterTurn, turns, allTurns, opening, begin, work}
 use Rattle.tank_model.specs.Members.{All, Distinct}
 use Rattle.tank_model.specs.Arguments.{cylinderOf}
 use Rattle.tank_model.specs.HistoryDemand.{EventOrderedOrNine}
@@ -88,29 +89,36 @@ module _ (m : TankDesign) (a : Step) where
   event-sorted false temps = tt
   event-sorted true temps = rearrange-sorted (m .layers) _ temps
 
-  event-hands : (x : EventMixing) (b : Bool) (s : Progress) → EventSorted x → EventOrderedOrNine (m .layers) (endBy (Event.numberAfter x b) s) x
-  event-hands unmixed b s o = tt
-  event-hands (mixed (sorted temps k)) b s o = o
-  event-hands (mixed unsorted) b s o = unfold endBy in refl
-
-  event-meets : (v : Float) (s : Progress) → MeetsIn (Law [] s) (event (cylinderOf m) (a .feed) v s)
-  unfolding event
-  event-meets v s = ((hands, tt), tt, tt, end-reach (Law [] s []) _ (afterEvent (cylinderOf m) e s) (λ z. unfold afterEvent in (law-still s (afterEvent (cylinderOf m) e s) refl refl)))
+  -- the events of the volumes vs, where those before came to s and the last of them drew n
+  events-hand : (vs : List Float) (n : ℕ) (temps : List Float) (t : Totals) (s : Progress)
+      → let d = drawAll (cylinderOf m) (a .feed) vs n temps t in
+      All (λ (e : Event). EventOrderedOrNine (m .layers) (endBy (d .end .number) s) (e .mixing)) (d .events)
+  unfolding drawAll
+  events-hand [] n temps t s = tt
+  events-hand (v ∷ vs) (suc n) temps t s = tt
+  events-hand (v ∷ vs) zero temps t s = (
+    go (e .mixing) (eventFinite (cylinderOf m) (tempsAfterEvent e) (totalsAfterEvent (cylinderOf m) e t)) (eventNumber (cylinderOf m) e t) (unfold eventOf in (event-sorted (e .refill .mixes) (e .refill .temps))) (unfold eventNumber in refl),
+    events-hand vs (eventNumber (cylinderOf m) e t) (tempsAfterEvent e) (totalsAfterEvent (cylinderOf m) e t) s,
+  )
     where
       e : Event
-      e = eventOf (cylinderOf m) (a .feed) v (s .temps) (s .totals)
+      e = eventOf (cylinderOf m) (a .feed) v temps t
 
-      hands : EventOrderedOrNine (m .layers) (endBy (eventNumber (cylinderOf m) e (s .totals)) (afterEvent (cylinderOf m) e s)) (e .mixing)
-      hands = unfold eventNumber in (event-hands (e .mixing) _ (afterEvent (cylinderOf m) e s) (unfold eventOf in (event-sorted (e .refill .mixes) (e .refill .temps))))
+      rest : ℕ → Drawings
+      rest k = drawAll (cylinderOf m) (a .feed) vs k (tempsAfterEvent e) (totalsAfterEvent (cylinderOf m) e t)
+
+      nine : (xs : List Float) → endBy (drawAll (cylinderOf m) (a .feed) xs 9 (tempsAfterEvent e) (totalsAfterEvent (cylinderOf m) e t) .end .number) s ≡ refused 9
+      nine [] = unfold drawAll endBy in refl
+      nine (x ∷ xs) = unfold drawAll endBy in refl
+
+      go : (x : EventMixing) (b : Bool) (k : ℕ) → EventSorted x → k ≡ Event.numberAfter x b → EventOrderedOrNine (m .layers) (endBy (rest k .end .number) s) x
+      go unmixed b k o q = tt
+      go (mixed (sorted after j)) b k o q = o
+      go (mixed unsorted) b k o q = rw q (nine vs)
 
   events-meets : (vs : List Float) (s : Progress) → MeetsIn (Law [] s) (events (cylinderOf m) (a .feed) vs s)
   unfolding events
-  events-meets [] s = (tt, tt, tt, law-still s s refl refl)
-  events-meets (v ∷ vs) s =
-      let e = event (cylinderOf m) (a .feed) v s in
-      then-meets (m .layers) (Right m a) (Law [] s) (Law [] s) e _ (event-meets v s)
-      (λ s1 a1. meets-map (m .layers) (Right m a) (Law [] s1) (λ us s2. Law [] s (e .turns ++ us) s2) (λ us s2 b1. both [] [] s (e .turns) s1 us s2 a1 b1 tt)
-      (events (cylinderOf m) (a .feed) vs s1) (events-meets vs s1))
+  events-meets vs s = (events-hand vs 0 (s .temps) (s .totals) _, tt, tt, end-reach (Law [] s []) _ _ (λ z. law-still s _ refl refl))
 
   -- ---- the turns
 

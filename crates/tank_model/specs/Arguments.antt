@@ -1,5 +1,5 @@
--- States how demand 3 reads the arguments of make and of a step, in 01's words and none of the work's (01, Tank; Switch-on; Supply and switch-off; Turn): make's
--- numbers, a heater's layers and rated power, the order of work, and what a thermostat layer is to the set points.
+-- States how demand 3 reads the arguments of make and of a step, in 01's words and none of the work's (01, Tank; Switch-on; Supply and switch-off; Turn):
+-- make's numbers, a heater's layers and rated power, the order of work, and what a thermostat layer is to the set points.
 use mathlib.Core.Path.{_≡_}
 use mathlib.Core.Logic.{_⊎_}
 use mathlib.Core.List.{List}

@@ -1,6 +1,6 @@
--- States the course of one step in demand 3's own words, by make's and the step's arguments (01, Draw; Mix; Switch-on to Step; Turn; refusals 9 and 10): what it begins on, which
--- events and turns there are, on what each begins, what each is and hands on, the average, and what ended the step with which number. It is a statement about a
--- `Work` and takes only the records of Work.antt: it cites nothing that works, chains or checks a step.
+-- States the course of one step in demand 3's own words, by make's and the step's arguments (01, Draw; Mix; Switch-on to Step; Turn; refusals 9 and 10):
+-- what it begins on, which events and turns there are, on what each begins, what each is and hands on, the average, and what ended the step with which
+-- number. It is a statement about a `Work` and takes only the records of Work.antt: it cites nothing that works, chains or checks a step.
 use mathlib.Core.Path.{_≡_}
 use mathlib.Core.Logic.{_⊎_, _↔_}
 use mathlib.Core.List.{List, [], _∷_}
@@ -26,7 +26,8 @@ use Rattle.tank_model.specs.declared.HeaterLine.{HeaterLine}
 use Rattle.tank_model.specs.Fixed.{State, fixedOf}
 use Rattle.tank_model.specs.Order.{workingOrder}
 use Rattle.tank_model.specs.Work.{Progress, Turn, End, refused, done, Work}
-use Rattle.tank_model.specs.Arguments.{cylinderOf, volumesOf, heaterLayer, thermostatLayer, maxEnergy, setPointsOf, eventVolume, HasUpper, AtOrUnderLower, UpperMissingOrReached}
+use Rattle.tank_model.specs.Arguments.{cylinderOf, volumesOf, heaterLayer, thermostatLayer, maxEnergy, setPointsOf, eventVolume}
+use Rattle.tank_model.specs.Arguments.{HasUpper, AtOrUnderLower, UpperMissingOrReached}
 use Rattle.tank_model.specs.Refusals.{NotFinite, LayerNotFinite, FirstOf, StepRefusal}
 
 abbrev pub accepted : End → Bool
@@ -72,8 +73,8 @@ pub record EventOf (m : TankDesign) (feed : Float) (v : Float) (s : Progress) (e
   pub mixing : T (e .refill .mixes) → (x : Mixing) × (e .mixing ≡ mixed x) × MixingOf (m .layers) (volumesOf m) (e .refill .temps) x
   pub no-mixing : ¬ (T (e .refill .mixes)) → e .mixing ≡ unmixed
 
--- it hands on s': the layers of its mixing, or of its refill if it has none; its energy and its volume used are added to the step's, and its draw ran on from the
--- step's weighted sum and volume drawn; no heater is touched
+-- it hands on s': the layers of its mixing, or of its refill if it has none; its energy and its volume used are added to the step's, and its draw ran on
+-- from the step's weighted sum and volume drawn; no heater is touched
 pub record EventLeaves (m : TankDesign) (s : Progress) (e : Event) (s' : Progress) : Type 0 where
   pub temps-mixed : (after : List Float) (rounds : ℕ) → e .mixing ≡ mixed (sorted after rounds) → s' .temps ≡ after
   pub temps-unmixed : e .mixing ≡ unmixed → s' .temps ≡ e .refill .temps
@@ -100,7 +101,8 @@ EventDraws m e s' n = FirstOf ((9, e .mixing ≡ mixed unsorted) ∷ (10, EventN
 abbrev pub inputOf : TankDesign → ℕ → Turn → Float
 inputOf m h u = sum2 (tabulate (offer (u .turned .ran) (maxEnergy m h) (heaterLayer m h)) (m .layers) 0)
 
--- what a turn came to after a mixing that left `after`. Its flag is on if the heater ran and the upper set point is neither missing nor reached on the layers it left
+-- what a turn came to after a mixing that left `after`. Its flag is on if the heater ran and the upper set point is neither missing nor reached on the layers
+-- that it left
 pub record FiguresOf (m : TankDesign) (h : ℕ) (s : Progress) (u : Turn) (after : List Float) : Type 0 where
   pub temps : u .turned .temps ≡ tempsAfter (cylinderOf m) (volumesOf m) (u .points) (s .temps) after (s .charged)
   pub charged : u .turned .charged ≡ chargedAfter (cylinderOf m) (volumesOf m) (u .points) (s .temps) after (s .charged)
@@ -117,8 +119,8 @@ abbrev pub AfterMixing : TankDesign → ℕ → Progress → Turn → Mixing →
 AfterMixing m h s u (sorted after k) = FiguresOf m h s u after × (u .turned .rounds ≡ k)
 AfterMixing m h s u unsorted = Unit {0}
 
--- the turn of the heater given as h, in a step with the arguments a that began with the flags fs, which began where the work had come to s. The heater ran if it has
--- an upper set point, and its thermostat layer is at or under a lower one or its flag was on
+-- the turn of the heater given as h, in a step with the arguments a that began with the flags fs, which began where the work had come to s. The heater ran if
+-- it has an upper set point, and its thermostat layer is at or under a lower one or its flag was on
 pub record TurnOf (m : TankDesign) (a : Step) (fs : List Bool) (h : ℕ) (s : Progress) (u : Turn) : Type 0 where
   pub heater : u .heater ≡ h
   pub points : u .points ≡ setPointsOf a h
@@ -162,8 +164,9 @@ TurnDraws m u n = FirstOf ((9, u .turned .mixing ≡ unsorted) ∷ (10, TurnNotF
 
 -- ---- one after the other
 
--- The parts ps of the work, events or turns, from s: each of ks had its part, in their order, and each began on the s' that the one before handed on (`Part k s p s'`).
--- Either all of them drew 0, and Then holds of what the last handed on; or the last of ps drew a number, for which Stopped holds.
+-- The parts ps of the work, events or turns, from s: each of ks had its part, in their order, and each began on what the one before handed on: `Part k s p s'`
+-- is the part p of k, from s to s'. Either all of them drew 0, and Then holds of what the last handed on; or the last of ps drew a number, for which Stopped
+-- holds.
 abbrev pub InSequence : {K P : Type 0}
     → (K → Progress → P → Progress → Type 0)
     → (P → Progress → ℕ → Type 0)

@@ -1,5 +1,5 @@
--- States what a list of calls works on a tank of its own (01, Turn), from the arguments of make and of the calls alone. Nothing here speaks of a tank, of a report,
--- or of what a call answers.
+-- States what a list of calls works on a tank of its own (01, Turn), from the arguments of make and of the calls alone. Nothing here speaks of a tank, of a
+-- report, or of what a call answers.
 use Prim.Native.Nat.{ℕ, zero, suc}
 use mathlib.Core.Bool.{false}
 use mathlib.Core.List.{List, [], _∷_, _++_}

@@ -1,9 +1,9 @@
--- States what demand 3 says of a list's history (00, demand 3; 01, Turn), which 01 works on a tank of its own: nothing here speaks of a tank, of a report, or of what
--- a call answers. proofs/HistoryDemand.antt proves it of every list; the crate storage_tank ties what the calls answer to it.
+-- States what demand 3 says of a list's history (00, demand 3; 01, Turn), which 01 works on a tank of its own: nothing here speaks of a tank, of a report, or
+-- of what a call answers. proofs/HistoryDemand.antt proves it of every list; the crate storage_tank ties what the calls answer to it.
 use mathlib.Core.Path.{_≡_}
 use mathlib.Core.Logic.{_↔_}
 use mathlib.Core.List.{List, []}
-use mathlib.Core.Bool.{Bool, true, false, not}
+use mathlib.Core.Bool.{false, not}
 use Prim.Native.Nat.{ℕ, suc, _≤_, _<_}
 use lib.Dec.{T}
 use lib.ListN.{length, getD, take, replicate}
@@ -75,7 +75,8 @@ noWork = record { events = []; turns = []; end = refused 0 }
 abbrev pub noCall : Call
 noCall = step (record { feed = nan; events = 0; volumes = []; entries = 0; settings = [] })
 
--- in some accepted step the turn of h began at or under a lower set point, and in no accepted step from that one on it ended with the upper one missing or reached
+-- in some accepted step the turn of h began at or under a lower set point, and in no accepted step from that one on it ended with the upper one missing or
+-- reached
 abbrev pub OnSince : ℕ → List Work → Type 0
 OnSince h ws = (i : ℕ) × InTurn Began h (getD ws i noWork) × ((j : ℕ) → i ≤ j → ¬ (InTurn Ended h (getD ws j noWork)))
 

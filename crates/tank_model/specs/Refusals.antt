@@ -1,5 +1,5 @@
--- States the refusals 1 to 8 in 01's sentences, one relation a number, over the arguments of make and of a step (01, The four calls): a refusal's number is that of the
--- first sentence that holds. Nothing here cites a check; proofs/Refusals.antt proves that the checks answer so.
+-- States the refusals 1 to 8 in 01's sentences, one relation a number, over the arguments of make and of a step (01, The four calls): a refusal's number is
+-- that of the first sentence that holds. Nothing here cites a check; proofs/Refusals.antt proves that the checks answer so.
 use mathlib.Core.Path.{_≡_}
 use mathlib.Core.Logic.{_⊎_, _≢_}
 use mathlib.Core.List.{List, [], _∷_, _++_}
@@ -57,8 +57,8 @@ NumbersRefused m =
     ⊎ NotFiniteAndAboveZero (m .cp)
     ⊎ NotFiniteAndAboveZero (m .timestep)
 
--- 4. Standby loss, initial, ambient or a stored layer temperature is not finite, or the standby loss is below zero. `Temperature` says that the initial one is not
--- finite, or one of those in store.
+-- 4. Standby loss, initial, ambient or a stored layer temperature is not finite, or the standby loss is below zero. `Temperature` says that the initial one is
+-- not finite, or one of those in store.
 abbrev pub TemperaturesRefused : TankDesign → Type 0 → Type 0
 TemperaturesRefused m Temperature = (NotFinite (m .standby) ⊎ BelowZero (m .standby)) ⊎ NotFinite (m .ambient) ⊎ Temperature
 

@@ -13,7 +13,7 @@ use Rattle.mixing.specs.Limits.{maxLayers}
 use Rattle.cylinder.specs.declared.Cylinder.{Cylinder}
 use Rattle.cylinder.specs.Layers.{layerVolumes}
 use Rattle.draw_off.specs.declared.Totals.{Totals}
-use Rattle.draw_off.specs.Event.{Event, eventOf, tempsAfterEvent, totalsAfterEvent, eventNumber}
+use Rattle.draw_off.specs.Event.{Event, drawAll}
 use Rattle.heating.specs.declared.SetPoints.{SetPoints}
 use Rattle.heating.specs.Turn.{Turned, turn, turnNumber}
 use Rattle.working_order.specs.Order.{maxHeaters}
@@ -75,7 +75,7 @@ unfoldable pub endBy : ℕ → Progress → End
 endBy zero s = done s
 endBy (suc n) s = refused (suc n)
 
--- ---- a draw event
+-- ---- the draw events
 
 abbrev pub withDraw : List Float → Totals → Progress → Progress
 withDraw temps t s = record {
@@ -88,17 +88,10 @@ withDraw temps t s = record {
   lines = s .lines;
 }
 
-unfoldable pub afterEvent : Cylinder → Event → Progress → Progress
-afterEvent c e s = withDraw (tempsAfterEvent e) (totalsAfterEvent c e (s .totals)) s
-
-unfoldable pub event : Cylinder → Float → Float → Progress → Work
-event c feed wanted s =
-    let e = eventOf c feed wanted (s .temps) (s .totals) in
-    record { events = e ∷ []; turns = []; end = endBy (eventNumber c e (s .totals)) (afterEvent c e s) }
-
 unfoldable pub events : Cylinder → Float → List Float → Progress → Work
-events c feed [] s = nothingMore s
-events c feed (v ∷ vs) s = andThen (event c feed v s) (λ s'. events c feed vs s')
+events c feed vs s =
+    let d = drawAll c feed vs 0 (s .temps) (s .totals) in
+    record { events = d .events; turns = []; end = endBy (d .end .number) (withDraw (d .end .temps) (d .end .totals) s) }
 
 -- the volumes of the step's events
 abbrev pub wantedVolumes : Step → List Float
