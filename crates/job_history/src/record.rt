@@ -44,6 +44,9 @@ pub fn next_history(buf: &mut [u8], bytes: &[u8], j: Job) -> Printed
             let settings = r.settings;
             tell_step(buf, j, next, job_run::start::step_of(p, volumes, settings))
         }
-        Record::Refused => job_run::record::end_or_refuse(buf, bytes.len(), j),
+        Record::Refused => {
+            let number = job_reader::read::number_of(content);
+            job_run::record::end_or_refuse(buf, bytes.len(), j, number)
+        }
     }
 }

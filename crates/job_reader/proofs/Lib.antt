@@ -3,4 +3,6 @@ pub mod Patterns
 pub mod Filling
 pub mod ReadLaws
 pub mod ReaderLaws
+pub mod EntryLaws
+pub mod ValueLaws
 pub mod WholeJob

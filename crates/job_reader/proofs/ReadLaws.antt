@@ -17,7 +17,7 @@ use Rattle.job_reader.specs.Records.{refusedAt, heaterRecordAt, stepRead
 use Rattle.job_reader.specs.Values.{valuesOf, valuesIn}
 use Rattle.job_reader.specs.WellFormed.{Stands, WellFormed, tank-record, heater-record, step-record}
 
-both : (a b : Bool) → (a && b) ≡ true → (a ≡ true) × (b ≡ true)
+pub both : (a b : Bool) → (a && b) ≡ true → (a ≡ true) × (b ≡ true)
 both true b h = (refl, h)
 both false b h = absurd (true≢false (sym h))
 
@@ -27,7 +27,7 @@ choose P true x y f g = f refl
 choose P false x y f g = g refl
 
 module _ (s : List ℕ) (at : ℕ) (tank : Bool) (heaters : ℕ) (step : Bool) where
-  whole : (size : ℕ) → u32At s at ≡ size → 2 ≤ size → at + 4 + size ≤ length s → heaters ≤ maxHeaters → (leb heaters maxHeaters && isWhole s at) ≡ true
+  pub whole : (size : ℕ) → u32At s at ≡ size → 2 ≤ size → at + 4 + size ≤ length s → heaters ≤ maxHeaters → (leb heaters maxHeaters && isWhole s at) ≡ true
   whole size e m l h =
       rw (le-leb heaters maxHeaters h, le-leb (at + 6) (length s) (omega arith), e, le-leb (at + 4 + size) (length s) l)
 

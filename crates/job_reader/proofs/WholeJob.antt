@@ -14,6 +14,7 @@ use Rattle.job_reader.specs.Reader.{newReader, isRefused, nextReading, n
 use Rattle.job_reader.specs.WellFormed.{WellFormed}
 use Rattle.job_reader.specs.WholeJob.{Before, nothingBefore, counted, recordsFrom, recordsAt, jobRecords, ReadToEnd, refused, another, placedAt, Same}
 use Rattle.job_reader.proofs.ReadLaws.{read-either, well-formed-moves}
+use Rattle.job_reader.proofs.ValueLaws.{record-read}
 
 -- ---- so many records are enough from a position on; after one that is not refused, one fewer
 
@@ -79,7 +80,9 @@ module _ (k : ℕ) (x : JobReader) (b : Before) where
   after = nextReader x (found x b)
 
   promised : NextRead x (b .tank) (b .heaters) (b .step) (found x b) after
-  promised = record { answers = refl; leaves = refl }
+  promised =
+      let e = record-read (now (x .bytes)) (x .at) (b .tank) (b .heaters) (b .step) (found x b) refl in
+      record { values = e .values; next = e .next; answers = e .answers; leaves = refl }
 
   -- by the test of the record at the reader's place
   read-step : (c : Bool) → isRefused (found x b .content) ≡ c → (c ≡ false → ReadFrom k (placedAt x (found x b .next)) (counted b (found x b .content))) → ReadFrom (suc k) x b

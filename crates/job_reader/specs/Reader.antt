@@ -11,6 +11,8 @@ use Rattle.job_reader.specs.declared.Record.the-variants.{Tank, Heater a
 use Rattle.job_reader.specs.declared.Reading.{Reading}
 use Rattle.job_reader.specs.declared.reader.JobReader.{JobReader}
 use Rattle.job_reader.specs.Records.{readRecord}
+use Rattle.job_reader.specs.Values.{valuesIn}
+use Rattle.job_reader.specs.ReadValues.{readValues, readNext}
 
 -- a reader of these bytes, at their start
 abbrev pub newReader : RefT (List ℕ) → JobReader
@@ -36,7 +38,9 @@ nextReading x tank heaters step = readRecord (now (x .bytes)) (x .at) tank heate
 abbrev pub nextReader : JobReader → Reading → JobReader
 nextReader x r = record { bytes = x .bytes; at = cond (isRefused (r .content)) (x .at) (r .next) }
 
--- a read by what came before: its answer r, and the reader y that it leaves
+-- a read by what came before: its answer r, with its number, its values and the position after it, and the reader y that it leaves
 pub record NextRead (x : JobReader) (tank : Bool) (heaters : ℕ) (step : Bool) (r : Reading) (y : JobReader) : Type 0 where
+  pub values : valuesIn r ≡ readValues (now (x .bytes)) (x .at) tank heaters step
+  pub next : r .next ≡ readNext (now (x .bytes)) (x .at) tank heaters step
   pub answers : r ≡ nextReading x tank heaters step
   pub leaves : y ≡ nextReader x r

@@ -7,6 +7,9 @@ use lib.ListN.{length}
 use Rattle.numeric.specs.Double.{zero-f}
 use Rattle.numeric.specs.Holds.{holds}
 use Rattle.working_order.specs.Order.{maxHeaters}
+use Rattle.tank_model.specs.declared.Heater.{Heater}
+use Rattle.job_reader.specs.declared.TankRecord.{TankRecord}
+use Rattle.job_reader.specs.declared.StepRecord.{StepRecord}
 use Rattle.job_reader.specs.declared.Record.{Record}
 use Rattle.job_reader.specs.declared.Record.the-variants.{Tank, Heater as HeaterCase, Step, Refused}
 use Rattle.job_reader.specs.declared.Reading.{Reading}
@@ -23,8 +26,8 @@ refusedAt at = plainReading Refused at
 
 -- ---- kind 1, the tank: once, and before all others
 
-abbrev pub tankRecordAt : List ℕ → ℕ → Record
-tankRecordAt s at = Tank (record {
+abbrev pub tankFieldsAt : List ℕ → ℕ → TankRecord
+tankFieldsAt s at = record {
   layers = u16At s (at + 6);
   volume = doubleAt s (at + 8);
   standby = doubleAt s (at + 16);
@@ -33,7 +36,10 @@ tankRecordAt s at = Tank (record {
   cp = doubleAt s (at + 40);
   ambient = doubleAt s (at + 48);
   timestep = doubleAt s (at + 56);
-})
+}
+
+abbrev pub tankRecordAt : List ℕ → ℕ → Record
+tankRecordAt s at = Tank (tankFieldsAt s at)
 
 unfoldable pub tankAt : List ℕ → ℕ → Bool → ℕ → Bool → Reading
 tankAt s at tank heaters step =
@@ -44,13 +50,16 @@ tankAt s at tank heaters step =
 -- ---- kind 2, a heater: after a tank and before any step
 
 -- an absent thermostat's double is ignored
-unfoldable pub heaterRecordAt : List ℕ → ℕ → ℕ → Record
-heaterRecordAt s at presence = HeaterCase (record {
+abbrev pub heaterFieldsAt : List ℕ → ℕ → ℕ → Heater
+heaterFieldsAt s at presence = record {
   rated = doubleAt s (at + 6);
   position = doubleAt s (at + 14);
   «has_thermostat» = not (eqb presence 0);
   thermostat = cond (eqb presence 0) zero-f (doubleAt s (at + 23));
-})
+}
+
+unfoldable pub heaterRecordAt : List ℕ → ℕ → ℕ → Record
+heaterRecordAt s at presence = HeaterCase (heaterFieldsAt s at presence)
 
 unfoldable pub heaterAt : List ℕ → ℕ → Bool → Bool → Reading
 heaterAt s at tank step =
@@ -70,9 +79,12 @@ entriesAt s at = at + 16 + 8 * eventsAt s at
 abbrev pub stepSizeAt : List ℕ → ℕ → ℕ → ℕ
 stepSizeAt s at heaters = 12 + 8 * eventsAt s at + 17 * heaters
 
+abbrev pub stepFieldsAt : List ℕ → ℕ → ℕ → StepRecord
+stepFieldsAt s at heaters = record { feed = doubleAt s (at + 6); events = eventsAt s at; entries = heaters }
+
 unfoldable pub stepReadingAt : List ℕ → ℕ → ℕ → Reading
 stepReadingAt s at heaters = record {
-  content = Step (record { feed = doubleAt s (at + 6); events = eventsAt s at; entries = heaters });
+  content = Step (stepFieldsAt s at heaters);
   volumes = stepVolumesAt s (at + 16) (eventsAt s at);
   settings = settingsAt s (entriesAt s at) heaters;
   next = at + 4 + u32At s at;

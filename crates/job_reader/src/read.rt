@@ -4,8 +4,10 @@ ghost use Prim.Native.Nat.{_+_, _*_, _≤_};
 ghost use lib.ListN.{length};
 ghost use Rattle.working_order.specs.Order.{maxHeaters};
 ghost use Rattle.job_reader.specs.Bytes.{u32At};
-ghost use Rattle.job_reader.specs.Records.{plainReading, refusedAt, tankAt, heaterRecordAt, heaterAt, stepAt, byKind, readRecord};
+ghost use Rattle.job_reader.specs.Records.{plainReading, refusedAt, tankAt, heaterRecordAt, heaterAt, stepAt, byKind};
 ghost use Rattle.job_reader.specs.Fields.{stepVolumesAt};
+ghost use Rattle.job_reader.specs.Values.{numberIn};
+ghost use Rattle.job_reader.specs.ReadValues.{RecordRead};
 use crate::Reading;
 use crate::Record;
 use crate::StepRecord;
@@ -187,7 +189,7 @@ fn record_at(s: &[u8], at: usize, size: usize, tank: bool, heaters: usize, step:
 
 // The call. `tank`, `heaters` and `step` say what came before: a tank or not, how many heaters, a step or not.
 pub fn read_record(s: &[u8], at: usize, tank: bool, heaters: usize, step: bool) -> Reading
-    ensures { λ r. ⌜ r ≡ readRecord (now (s .entry)) at tank heaters step ⌝ }
+    ensures { λ r. ⌜ RecordRead (now (s .entry)) at tank heaters step r ⌝ }
 {
     if heaters > MAX_HEATERS {
         return refused(at);
@@ -203,4 +205,16 @@ pub fn read_record(s: &[u8], at: usize, tank: bool, heaters: usize, step: bool) 
         return refused(at);
     }
     record_at(s, at, size, tank, heaters, step)
+}
+
+// The number of a record's case: 0 where it is read, 11 where it is refused.
+pub fn number_of(content: Record) -> u8
+    ensures { λ n. ⌜ n ≡ numberIn content ⌝ }
+{
+    match content {
+        Record::Tank(_) => 0,
+        Record::Heater(_) => 0,
+        Record::Step(_) => 0,
+        Record::Refused => 11,
+    }
 }

@@ -1,6 +1,6 @@
 // The reader that carries its bytes: the lent slice and a place in it. Each function takes it apart and calls a function on the slice and the number.
 ghost use mathlib.Core.Path.{_≡_};
-ghost use Rattle.job_reader.specs.Records.{readRecord};
+ghost use Rattle.job_reader.specs.ReadValues.{RecordRead};
 ghost use Rattle.job_reader.specs.Reader.{newReader, bytesLeft, NextRead};
 use crate::Reading;
 
@@ -43,7 +43,7 @@ impl<'a> JobReader<'a> {
 
 // The record at a place, through a reader made there: whoever calls this one needs no reader of their own.
 pub fn read_at(bytes: &[u8], at: usize, tank: bool, heaters: usize, step: bool) -> Reading
-    ensures { λ r. ⌜ r ≡ readRecord (now (bytes .entry)) at tank heaters step ⌝ }
+    ensures { λ r. ⌜ RecordRead (now (bytes .entry)) at tank heaters step r ⌝ }
 {
     let mut reader = JobReader { bytes, at };
     reader.next(tank, heaters, step)

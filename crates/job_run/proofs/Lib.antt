@@ -2,3 +2,4 @@
 pub mod Moves
 pub mod Ends
 pub mod Rest
+pub mod EmptyInput

@@ -42,9 +42,9 @@ module _ (j : Job) where
   unfolding refusedTurn
   refused-ends n = (refl, refl, refl)
 
-  end-ends : (size : ℕ) → Ends j (endTurn size j)
+  end-ends : (size number : ℕ) → Ends j (endTurn size j number)
   unfolding endTurn
-  end-ends size = either (Ends j) (eqb (j .at) size && not (eqb (j .at) 0)) (record { job = endedJob j; text = [] }) (refusedTurn j 11) (refl, refl, refl) (refused-ends 11)
+  end-ends size n = either (Ends j) (eqb (j .at) size && not (eqb (j .at) 0)) (record { job = endedJob j; text = [] }) (refusedTurn j n) (refl, refl, refl) (refused-ends n)
 
   module _ (next : ℕ) where
     abbrev Goes : Turn → Type 0
@@ -71,7 +71,7 @@ module _ (j : Job) where
   of-goes bytes r (Tank t) = made-goes (r .next) (designOf t)
   of-goes bytes r (HeaterCase h) = heater-goes (r .next) h
   of-goes bytes r (StepCase p) = step-goes (r .next) (stepOf p (r .volumes) (r .settings))
-  of-goes bytes r Refused = inl (end-ends (length bytes))
+  of-goes bytes r Refused = inl (end-ends (length bytes) _)
 
   -- the law
   abbrev pub Moves : ℕ → Turn → Type 0
@@ -87,4 +87,4 @@ module _ (j : Job) where
     where
       go : (r : Reading) → WellFormed bytes (j .at) (j .«has_tank») (j .design .heaters) (not (eqb (j .steps) 0)) r ⊎ (r ≡ refusedAt (j .at)) → Moves (length bytes) (turnOf bytes j r (r .content))
       go r (inl w) = goes-moves (length bytes) (r .next) (turnOf bytes j r (r .content)) (well-formed-moves bytes (j .at) (j .«has_tank») (j .design .heaters) (not (eqb (j .steps) 0)) r w) (of-goes bytes r (r .content))
-      go r (inr e) = rw e (inl (end-ends (length bytes)))
+      go r (inr e) = rw e (inl (end-ends (length bytes) _))

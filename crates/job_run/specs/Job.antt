@@ -22,7 +22,7 @@ use Rattle.job_reader.specs.declared.Record.{Record}
 use Rattle.job_reader.specs.declared.Record.the-variants.{Tank, Heater as HeaterCase, Step as StepCase, Refused}
 use Rattle.job_reader.specs.declared.Reading.{Reading}
 use Rattle.job_reader.specs.Records.{readRecord}
-use Rattle.job_reader.specs.Values.{zeroTankRecord}
+use Rattle.job_reader.specs.Values.{zeroTankRecord, numberIn}
 use Rattle.job_lines.specs.Put.{written}
 use Rattle.job_lines.specs.Lines.{refusalLine, stepLines}
 use Rattle.job_run.specs.declared.Job.{Job}
@@ -116,15 +116,15 @@ stepTurn j next a =
     let s = stepped (j .tank) (j .report) a in
     record { job = afterStep j next (s .tank) (s .report); text = stepLines (j .steps) s }
 
--- the input's end ends the program; empty input, and any other refused record, is 11
-unfoldable pub endTurn : ℕ → Job → Turn
-endTurn size j = cond (eqb (j .at) size && not (eqb (j .at) 0)) (record { job = endedJob j; text = [] }) (refusedTurn j 11)
+-- the input's end ends the program; empty input, and any other refused record, is refused with the number of the reader's answer
+unfoldable pub endTurn : ℕ → Job → ℕ → Turn
+endTurn size j number = cond (eqb (j .at) size && not (eqb (j .at) 0)) (record { job = endedJob j; text = [] }) (refusedTurn j number)
 
 unfoldable pub turnOf : List ℕ → Job → Reading → Record → Turn
 turnOf bytes j r (Tank t) = madeTurn j (r .next) (designOf t)
 turnOf bytes j r (HeaterCase h) = heaterTurn j (r .next) h
 turnOf bytes j r (StepCase p) = stepTurn j (r .next) (stepOf p (r .volumes) (r .settings))
-turnOf bytes j r Refused = endTurn (length bytes) j
+turnOf bytes j r Refused = endTurn (length bytes) j (numberIn Refused)
 
 abbrev pub readingOf : List ℕ → Job → Reading
 readingOf bytes j = readRecord bytes (j .at) (j .«has_tank») (j .design .heaters) (not (eqb (j .steps) 0))

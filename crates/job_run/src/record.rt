@@ -77,15 +77,15 @@ fn run_step(buf: &mut [u8], j: Job, next: usize, a: Step) -> Printed
     Printed { job, length }
 }
 
-// No record: the input's end, or a refusal.
-pub fn end_or_refuse(buf: &mut [u8], size: usize, j: Job) -> Printed
-    ensures { λ r. ⌜ Turned (endTurn size j) (now (buf .entry)) (now (buf .exit)) r ⌝ }
+// No record: the input's end, or a refusal with the number of the reader's answer.
+pub fn end_or_refuse(buf: &mut [u8], size: usize, j: Job, number: u8) -> Printed
+    ensures { λ r. ⌜ Turned (endTurn size j number) (now (buf .entry)) (now (buf .exit)) r ⌝ }
 {
     if j.at != size {
-        return refuse(buf, j, 11);
+        return refuse(buf, j, number);
     }
     if j.at == 0 {
-        return refuse(buf, j, 11);
+        return refuse(buf, j, number);
     }
     let job = end_job(j);
     Printed { job, length: 0 }
@@ -108,6 +108,9 @@ pub fn next_record(buf: &mut [u8], bytes: &[u8], j: Job) -> Printed
             let settings = r.settings;
             run_step(buf, j, next, crate::start::step_of(p, volumes, settings))
         }
-        Record::Refused => end_or_refuse(buf, bytes.len(), j),
+        Record::Refused => {
+            let number = job_reader::read::number_of(content);
+            end_or_refuse(buf, bytes.len(), j, number)
+        }
     }
 }

@@ -5,6 +5,7 @@ pub mod Length
 pub mod Places
 pub mod Array
 pub mod Order
+pub mod Answers
 pub mod Figures
 pub mod Keeps
 pub mod Joins

@@ -4,7 +4,7 @@ ghost use mathlib.Core.List.{_++_};
 ghost use Prim.Native.Nat.{_≤_};
 ghost use lib.ListN.{length, take, drop};
 ghost use Rattle.mixing.specs.Limits.{maxLayers};
-ghost use Rattle.mixing.specs.Mix.{answerOf, tempsOf, mixing, mixAnswer, mixLayers};
+ghost use Rattle.mixing.specs.Mix.{answerOf, tempsOf, mixing, MixAnswered};
 use crate::MixAnswer;
 use crate::limits::MAX_LAYERS;
 
@@ -54,7 +54,7 @@ fn mix_array(layers: &mut [f64], layer_volume: f64) -> MixAnswer
 
 // Refusals 1, 3 and 9, in that order; a refused mix leaves the layers as they were.
 pub fn mix(layers: &mut [f64], layer_volume: f64) -> MixAnswer
-    ensures { λ r. ⌜ (r ≡ mixAnswer (now (layers .entry)) «layer_volume») × (now (layers .exit) ≡ mixLayers (now (layers .entry)) «layer_volume») ⌝ }
+    ensures { λ r. ⌜ MixAnswered (now (layers .entry)) «layer_volume» r (now (layers .exit)) ⌝ }
 {
     let n = layers.len();
     if n == 0 {

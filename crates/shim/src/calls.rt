@@ -1,7 +1,7 @@
 // The exported calls. Each answers the number of 01's refusal, 0 where it is accepted. A refused step and a refused mix leave what was lent as it was.
 ghost use mathlib.Core.Path.{_≡_};
 ghost use mathlib.Core.List.{[], _∷_};
-ghost use Rattle.mixing.specs.Mix.{mixAnswer, mixLayers, numberOf, roundsOf};
+ghost use Rattle.mixing.specs.Mix.{mixNumber, mixRounds, mixLayers, numberOf, roundsOf};
 ghost use Rattle.storage_tank.specs.Calls.{made, stepped};
 ghost use Rattle.shim.specs.Tanks.{designIn, tankIn, TankWritten};
 ghost use Rattle.shim.specs.Reports.{reportIn};
@@ -45,7 +45,9 @@ fn rounds_of(a: MixAnswer) -> usize
 // Mixes layers of one volume. `rounds` is how many were run, 0 where refused.
 #[no_mangle]
 pub extern "C" fn huszmago_mix(layers: &mut [f64], layer_volume: f64, rounds: &mut [usize; 1]) -> u8
-    ensures { λ r. ⌜ (r ≡ numberOf (mixAnswer (now (layers .entry)) «layer_volume»)) × (now (layers .exit) ≡ mixLayers (now (layers .entry)) «layer_volume») × (now (rounds .exit) ≡ roundsOf (mixAnswer (now (layers .entry)) «layer_volume») ∷ []) ⌝ }
+    ensures number { λ r. ⌜ r ≡ mixNumber (now (layers .entry)) «layer_volume» ⌝ }
+    ensures leaves { λ r. ⌜ now (layers .exit) ≡ mixLayers (now (layers .entry)) «layer_volume» ⌝ }
+    ensures runs { λ r. ⌜ now (rounds .exit) ≡ mixRounds (now (layers .entry)) «layer_volume» ∷ [] ⌝ }
 {
     let a = mixing::mix::mix(layers, layer_volume);
     let n = rounds_of(a);

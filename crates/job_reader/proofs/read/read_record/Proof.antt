@@ -4,6 +4,7 @@ use Prim.Native.Nat.{_+_}
 use native.Mathlib.Omega.{arith}
 use borrow.Author.Tests.{lt-leb, le-leb}
 use Rattle.job_reader.specs.Records.{readRecord}
+use Rattle.job_reader.proofs.ValueLaws.{record-read}
 use borrow.Author.Needs.{needs}
 use Rattle.job_reader.proofs.read.read_record.Statement.{statement}
 use Rattle.job_reader.proofs.read.read_record.Tie as tie
@@ -13,14 +14,14 @@ refused-requires c κs = search needs
 
 returns : tie.Need-returns
 unfolding readRecord
-returns c = rw (lt-leb _ _ (c .before .if1 .taken)) (c .refused .ensures)
+returns c = record-read _ _ _ _ _ _ (rw (lt-leb _ _ (c .before .if1 .taken)) (c .refused .ensures))
 
 refused-requires-2 : tie.Need-refused-requires-2
 refused-requires-2 c κs = search needs
 
 returns-2 : tie.Need-returns-2
 unfolding readRecord
-returns-2 c = rw (le-leb _ _ (c .before .before .if1 .left), lt-leb (c .before .before .before .before .args .at + 6) (length (c .before .before .before .before .args .s .now)) (omega arith)) (c .refused2 .ensures)
+returns-2 c = record-read _ _ _ _ _ _ (rw (le-leb _ _ (c .before .before .if1 .left), lt-leb (c .before .before .before .before .args .at + 6) (length (c .before .before .before .before .args .s .now)) (omega arith)) (c .refused2 .ensures))
 
 sub-if3 : tie.Need-sub-if3
 sub-if3 c = search needs
@@ -30,7 +31,7 @@ refused-requires-3 c κs = search needs
 
 returns-3 : tie.Need-returns-3
 unfolding readRecord
-returns-3 c = rw (le-leb _ _ (c .before .before .before .if1 .left), lt-leb (c .before .before .before .before .before .args .at + 6) (length (c .before .before .before .before .before .args .s .now)) (omega arith)) (c .refused3 .ensures)
+returns-3 c = record-read _ _ _ _ _ _ (rw (le-leb _ _ (c .before .before .before .if1 .left), lt-leb (c .before .before .before .before .before .args .at + 6) (length (c .before .before .before .before .before .args .s .now)) (omega arith)) (c .refused3 .ensures))
 
 u32-at-requires : tie.Need-u32-at-requires
 u32-at-requires c κs = search needs
@@ -49,14 +50,14 @@ refused-requires-4 c κs = search needs
 
 returns-4 : tie.Need-returns-4
 unfolding readRecord
-returns-4 c = rw (le-leb _ _ (c .before .before .before .before .before .if1 .left), le-leb (c .before .before .before .before .before .before .before .args .at + 6) (length (c .before .before .before .before .before .before .before .args .s .now)) (omega arith), ← c .before .before .u32-at .ensures, lt-leb (c .before .before .before .before .before .before .before .args .at + 4 + c .before .before .u32-at .result) (length (c .before .before .before .before .before .before .before .args .s .now)) (omega arith)) (c .refused4 .ensures)
+returns-4 c = record-read _ _ _ _ _ _ (rw (le-leb _ _ (c .before .before .before .before .before .if1 .left), le-leb (c .before .before .before .before .before .before .before .args .at + 6) (length (c .before .before .before .before .before .before .before .args .s .now)) (omega arith), ← c .before .before .u32-at .ensures, lt-leb (c .before .before .before .before .before .before .before .args .at + 4 + c .before .before .u32-at .result) (length (c .before .before .before .before .before .before .before .args .s .now)) (omega arith)) (c .refused4 .ensures))
 
 record-at-requires : tie.Need-record-at-requires
 record-at-requires c κs = search needs
 
 returns-5 : tie.Need-returns-5
 unfolding readRecord
-returns-5 c = rw (le-leb _ _ (c .before .before .before .before .before .if1 .left), le-leb (c .before .before .before .before .before .before .before .args .at + 6) (length (c .before .before .before .before .before .before .before .args .s .now)) (omega arith), ← c .before .before .u32-at .ensures, le-leb (c .before .before .before .before .before .before .before .args .at + 4 + c .before .before .u32-at .result) (length (c .before .before .before .before .before .before .before .args .s .now)) (omega arith)) (c .record-at .ensures)
+returns-5 c = record-read _ _ _ _ _ _ (rw (le-leb _ _ (c .before .before .before .before .before .if1 .left), le-leb (c .before .before .before .before .before .before .before .args .at + 6) (length (c .before .before .before .before .before .before .before .args .s .now)) (omega arith), ← c .before .before .u32-at .ensures, le-leb (c .before .before .before .before .before .before .before .args .at + 4 + c .before .before .u32-at .result) (length (c .before .before .before .before .before .before .before .args .s .now)) (omega arith)) (c .record-at .ensures))
 
 pub read-record-spec : {M : Type 1} → statement M
 read-record-spec =

@@ -1,7 +1,7 @@
 -- `reader::read_at` meets its contract (01, Forms Rattle lacks: the lent bytes and a position): a walk of its MIR. A reader is made in a local, lent to `next` for a lifetime of the call within that of the bytes, and taken back. All that the proof knows of `next` is that it meets its contract.
 -- A `&[u8]` can be copied, so what the slice owns is had twice: once for the parameter at exit, and once inside the reader.
 use mathlib.Core.Bool.{Bool}
-use mathlib.Core.Path.{_≡_, refl}
+use mathlib.Core.Path.{refl}
 use Prim.Native.Nat.{ℕ, _<_, _^_}
 use mathlib.Core.List.{List, [], _∷_}
 use lib.ListN.{length}
@@ -47,7 +47,7 @@ use denote.Triple.Walked.{says, Stays, stay-none, stay-none-slice, walkOf, goes-
 use denote.Exit.{yes}
 use borrow.Table.OneValue.{part-in-at, part-out-at}
 use borrow.Within.Token.{Rest, within-token, within-end}
-use Rattle.job_reader.specs.Records.{readRecord}
+use Rattle.job_reader.specs.ReadValues.{RecordRead}
 use Rattle.job_reader.specs.Reader.{NextRead}
 use Rattle.job_reader.specs.declared.Reading.{Reading}
 use Rattle.job_reader.specs.declared.reader.JobReader.{JobReader}
@@ -86,8 +86,9 @@ module _ {M : Type 1} (𝓤 : URA M) (H : Heap 𝓤) (A : Atoms 𝓤) (W : Given
   abbrev at : List Val × (List Val × (List Val × (List Val × (List Val × Unit {0}))))
   at = (v ∷ [], (vint w64 n ∷ [], (vbool tank ∷ [], (vint w64 heaters ∷ [], (vbool step ∷ [], tt)))))
 
-  abbrev found : Reading
-  found = readRecord (now s) n tank heaters step
+  -- what is promised of the answer
+  abbrev Told : Reading → Type 0
+  Told r = RecordRead (now s) n tank heaters step r
 
   abbrev Post : Val → SProp 𝓤
   Post = walkOf 𝓤 H A read-at.ended stayed (read-at.clauses 𝓤 H A at-mem run) .post (((κ, tt), (q, tt), tt, a, at), tt)
@@ -128,7 +129,7 @@ module _ {M : Type 1} (𝓤 : URA M) (H : Heap 𝓤) (A : Atoms 𝓤) (W : Given
       nothing ! $ owned ! bool (Is bool) (bool-makes 𝓤 H A W) step _ refl $ fjoin ! $ owned ! usize (Is usize) (uint-makes 𝓤 H A W w64) heaters _ (refl, few) $ fjoin ! $ owned ! bool (Is bool) (bool-makes 𝓤 H A W) tank _ refl $ fjoin ! $
       move ! (1 ∷ 0 ∷ []) $ fjoin ! $ nothing ! $ move ! (3 ∷ 0 ∷ []) $ join ! $ move ! (2 ∷ 0 ∷ []) $ join ! $ join ! $ frame ! $ done !
 
-  exits : (r : Reading) (u : Val) → r ≡ found → ent 𝓤 (⋆ 𝓤 H A (‵ (flft κ q) ∷ ‵ (S.the-row .own r (u ∷ [])) ∷ ‵ Own ∷ [])) (Post u)
+  exits : (r : Reading) (u : Val) → Told r → ent 𝓤 (⋆ 𝓤 H A (‵ (flft κ q) ∷ ‵ (S.the-row .own r (u ∷ [])) ∷ ‵ Own ∷ [])) (Post u)
   exits r u e =
       qed W (‵ (flft κ q) ∷ ‵ (S.the-row .own r (u ∷ [])) ∷ ‵ Own ∷ []) ∵
       suffices ! _ (ends-at 𝓤 H A read-at.ended stayed (read-at.clauses 𝓤 H A at-mem run) W (((κ, tt), (q, tt), tt, a, at), tt) u r (tt, (tt, (tt, (tt, (tt, tt))))) (tt, (tt, (tt, (tt, (tt, tt)))))) $ says ! e $
@@ -173,7 +174,7 @@ module _ {M : Type 1} (𝓤 : URA M) (H : Heap 𝓤) (A : Atoms 𝓤) (W : Given
         -- [_6; what the reader owns; κ's token; true; the answer; …; true; what s owns; _7; …; _6's end; _5; …; _4; …; _3; …; _2; …; _1; …; _0; …]
         returns ! (look ! 21 refl) $ forget ! 0 refl $ forget ! 8 refl $ forget ! 11 refl $ forget ! 13 refl $ forget ! 15 refl $ forget ! 17 refl $ forget ! 19 refl $ forget ! 21 refl $
         move ! (21 ∷ 22 ∷ []) $ free1 ! $ move ! (19 ∷ 20 ∷ []) $ free1 ! $ move ! (17 ∷ 18 ∷ []) $ free1 ! $ move ! (15 ∷ 16 ∷ []) $ free1 ! $ move ! (13 ∷ 14 ∷ []) $ free1 ! $ move ! (11 ∷ 12 ∷ []) $ free1 ! $ move ! (0 ∷ 10 ∷ []) $ free1 ! $ move ! (7 ∷ 8 ∷ []) $ free1 ! $ free0 ! $
-        keep ! (1 ∷ 3 ∷ 6 ∷ []) $ by ! (exits r u (e .answers))))))))))))))))))
+        keep ! (1 ∷ 3 ∷ 6 ∷ []) $ by ! (exits r u (record { values = e .values; next = e .next; answers = e .answers }))))))))))))))))))
 
 module _ {M : Type 1} (𝓤 : URA M) (H : Heap 𝓤) (A : Atoms 𝓤) (W : Given 𝓤 H A) (mem : Memory → SProp 𝓤) (run : Routine → Fun 𝓤) where
   read-at-walks : (C : Calls 𝓤 H) (Λ : Loops 𝓤 H) → FmC 𝓤 H (W .laws) C → Triple 𝓤 (C #next) (Next 𝓤 H A mem run)

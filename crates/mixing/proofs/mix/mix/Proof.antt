@@ -2,6 +2,7 @@
 use mathlib.Core.Path.{_≡_}
 use borrow.Author.Tests.{eq-eqb, ne-eqb, lt-ltb, le-ltb, not-true, not-false}
 use Rattle.mixing.specs.Mix.{mixRefusal}
+use Rattle.mixing.proofs.Answers.{mix-answered}
 use borrow.Author.Needs.{needs}
 use Rattle.mixing.proofs.mix.mix.Statement.{statement}
 use Rattle.mixing.proofs.mix.mix.Tie as tie
@@ -10,14 +11,14 @@ returns : tie.Need-returns
 unfolding mixRefusal
 returns c =
     let e : mixRefusal (c .before .before .args .layers .now) (c .before .before .args .layer-volume) ≡ 1 = rw (eq-eqb _ _ (c .if1 .taken)) in
-    (rw e, rw e)
+    mix-answered _ _ _ _ (rw e) (rw e)
 
 returns-2 : tie.Need-returns-2
 unfolding mixRefusal
 returns-2 c =
     let start = c .before .before .before in
     let e : mixRefusal (start .args .layers .now) (start .args .layer-volume) ≡ 1 = rw (ne-eqb _ _ (c .before .if1 .left), lt-ltb _ _ (c .if2 .taken)) in
-    (rw e, rw e)
+    mix-answered _ _ _ _ (rw e) (rw e)
 
 is-finite-above-zero-requires : tie.Need-is-finite-above-zero-requires
 is-finite-above-zero-requires c κs = search needs
@@ -28,7 +29,7 @@ returns-3 c =
     let second = c .before .before in
     let start = second .before .before .before in
     let e : mixRefusal (start .args .layers .now) (start .args .layer-volume) ≡ 3 = rw (ne-eqb _ _ (second .before .if1 .left), le-ltb _ _ (second .if2 .left), ← c .before .is-finite-above-zero .ensures, not-true (c .before .is-finite-above-zero .result) (c .if3 .taken)) in
-    (rw e, rw e)
+    mix-answered _ _ _ _ (rw e) (rw e)
 
 mix-array-requires : tie.Need-mix-array-requires
 mix-array-requires c κs = search needs
@@ -43,7 +44,7 @@ returns-4 c =
     let second = third .before .before in
     let start = second .before .before .before in
     let e : mixRefusal (start .args .layers .now) (start .args .layer-volume) ≡ 0 = rw (ne-eqb _ _ (second .before .if1 .left), le-ltb _ _ (second .if2 .left), ← third .before .is-finite-above-zero .ensures, not-false (third .before .is-finite-above-zero .result) (third .if3 .left)) in
-    (rw e (c .before .before .mix-array .ensures .0), rw e (c .before .before .mix-array .ensures .1))
+    mix-answered _ _ _ _ (rw e (c .before .before .mix-array .ensures .0)) (rw e (c .before .before .mix-array .ensures .1))
 
 pub mix-spec : {M : Type 1} → statement M
 mix-spec =

@@ -1,7 +1,6 @@
--- `calls::huszmago_mix` meets its contract (01, The four calls): the answer of mix, taken apart.
+-- `calls::huszmago_mix` meets its contract (01, The four calls): the number and the rounds that mix promises of its answer.
 use mathlib.Core.Path.{ap, _∙_}
 use mathlib.Core.List.{[], _∷_}
-use Rattle.mixing.specs.Mix.{numberOf, roundsOf}
 use borrow.Author.Needs.{needs}
 use Rattle.shim.proofs.calls.huszmago_mix.Statement.{statement}
 use Rattle.shim.proofs.calls.huszmago_mix.Tie as tie
@@ -21,7 +20,7 @@ same-length c = search needs
 returns : tie.Need-returns
 returns c =
     let m = c .before .before .before .before .before .mix .ensures in
-    (c .number-of .ensures ∙ ap numberOf (m .0), m .1, ap (λ n. n ∷ []) (c .before .before .rounds-of .ensures ∙ ap roundsOf (m .0)))
+    (c .number-of .ensures ∙ m .number, (m .leaves, ap (λ n. n ∷ []) (c .before .before .rounds-of .ensures ∙ m .rounds)))
 
 pub huszmago-mix-spec : {M : Type 1} → statement M
 huszmago-mix-spec =

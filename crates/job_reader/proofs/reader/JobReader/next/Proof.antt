@@ -45,6 +45,7 @@ use denote.Triple.Table.{entered, cited}
 use denote.Triple.Walked.{says, Stays, stay-ref, stay-none, walkOf, goes-none, goes-ref, Walks, ends-at, walked, walk-meets}
 use denote.Exit.{yes}
 use Rattle.job_reader.specs.Records.{readRecord}
+use Rattle.job_reader.specs.ReadValues.{RecordRead}
 use Rattle.job_reader.specs.Reader.{isRefused}
 use Rattle.job_reader.specs.declared.Reading.{Reading}
 use Rattle.job_reader.specs.declared.reader.JobReader.{JobReader}
@@ -101,6 +102,10 @@ module _ {M : Type 1} (𝓤 : URA M) (H : Heap 𝓤) (A : Atoms 𝓤) (W : Given
   abbrev found : Reading
   found = readRecord (now (h .bytes)) (h .at) tank heaters step
 
+  -- what the callee promises of its answer
+  abbrev Told : Reading → Type 0
+  Told r = RecordRead (now (h .bytes)) (h .at) tank heaters step r
+
   -- the reader at the place n
   abbrev at-place : ℕ → JobReader
   at-place n = record { bytes = h .bytes; at = n }
@@ -130,8 +135,8 @@ module _ {M : Type 1} (𝓤 : URA M) (H : Heap 𝓤) (A : Atoms 𝓤) (W : Given
       move ! (1 ∷ 0 ∷ []) $ join ! $ frame ! $ done !
 
   -- of the callee's `ensured`, the clause alone: it has no `&mut`, so what is said of last values is dropped
-  said : (r : Reading) → ent 𝓤 (ensured 𝓤 H A read.ended (read.clauses 𝓤 H A at-mem run) (κ′, tt) (h .bytes, (h .at, (tank, (heaters, (step, tt))))) tt r) (fact 𝓤 (r ≡ found))
-  said r = exE 𝓤 _ (λ ws. snd∗ 𝓤 (sem 𝓤 H A (lasts read.ended (κ′, tt) (h .bytes, (h .at, (tank, (heaters, (step, tt))))) ws)) (fact 𝓤 (r ≡ found)))
+  said : (r : Reading) → ent 𝓤 (ensured 𝓤 H A read.ended (read.clauses 𝓤 H A at-mem run) (κ′, tt) (h .bytes, (h .at, (tank, (heaters, (step, tt))))) tt r) (fact 𝓤 (Told r))
+  said r = exE 𝓤 _ (λ ws. snd∗ 𝓤 (sem 𝓤 H A (lasts read.ended (κ′, tt) (h .bytes, (h .at, (tank, (heaters, (step, tt))))) ws)) (fact 𝓤 (Told r)))
 
   -- what the slice owns is kept, and the facts of the place are made anew
   again : (r : Reading) → r .next < 2 ^ 64 → ent 𝓤 (sem 𝓤 H A (B κ′ .own h (mach ∷ []))) (sem 𝓤 H A (B κ′ .own (moved r) (T′.lowered (moved r) ∷ [])))
@@ -139,11 +144,11 @@ module _ {M : Type 1} (𝓤 : URA M) (H : Heap 𝓤) (A : Atoms 𝓤) (W : Given
       qed W (‵ (B κ′ .own h (mach ∷ [])) ∷ []) ∵ owned ! usize (Is usize) (uint-makes 𝓤 H A W w64) (r .next) _ (refl, fits) $ move ! (1 ∷ 0 ∷ []) $
       by ! (own-put 𝓤 H A W (T.the-type (α κ′)) (T′.the-laws (α κ′)) 1 (h .bytes, (h .at, tt)) (r .next) mach)
 
-  exits : (r : Reading) → r ≡ found → ent 𝓤 (⋆ 𝓤 H A (‵ (fobs γ (B κ′ .coded .code (moved r))) ∷ ‵ (fbor κ (Body (mem (B κ′)) b o γ)) ∷ ‵ (flft κ q) ∷ ‵ (S.the-row .own r (S′.lowered r ∷ [])) ∷ (‵ (flft κ′ q′) ⊛ ‵ ftrue) ∷ [])) (Post (S′.lowered r))
+  exits : (r : Reading) → Told r → ent 𝓤 (⋆ 𝓤 H A (‵ (fobs γ (B κ′ .coded .code (moved r))) ∷ ‵ (fbor κ (Body (mem (B κ′)) b o γ)) ∷ ‵ (flft κ q) ∷ ‵ (S.the-row .own r (S′.lowered r ∷ [])) ∷ (‵ (flft κ′ q′) ⊛ ‵ ftrue) ∷ [])) (Post (S′.lowered r))
   exits r e =
       qed W (‵ (fobs γ (B κ′ .coded .code (moved r))) ∷ ‵ (fbor κ (Body (mem (B κ′)) b o γ)) ∷ ‵ (flft κ q) ∷ ‵ (S.the-row .own r (S′.lowered r ∷ [])) ∷ (‵ (flft κ′ q′) ⊛ ‵ ftrue) ∷ []) ∵
       suffices ! _ (ends-at 𝓤 H A next.ended stayed (next.clauses 𝓤 H A at-mem run) W (((κ, (κ′, tt)), (q, (q′, tt)), bounds, a, at), tt) (S′.lowered r) r (moved r, (tt, (tt, (tt, tt)))) (tt, (tt, (tt, (tt, tt))))) $
-      says ! (record { answers = e; leaves = ap at-place (stored r e) }) $
+      says ! (record { values = e .values; next = e .next; answers = e .answers; leaves = ap at-place (stored r (e .answers)) }) $
       move ! (2 ∷ 4 ∷ []) $ join ! $ frame ! $ feqI ! (List Val) (vptr b o ∷ []) (vptr b o ∷ []) refl $ fjoin3 ! $
       nothing ! $ owned ! bool (Is bool) (bool-makes 𝓤 H A W) step _ refl $ fjoin ! $ owned ! usize (Is usize) (uint-makes 𝓤 H A W w64) heaters _ (refl, few) $ fjoin ! $ owned ! bool (Is bool) (bool-makes 𝓤 H A W) tank _ refl $ fjoin ! $
       move ! (1 ∷ 0 ∷ []) $ fjoin ! $ frame ! $ done !
@@ -170,7 +175,7 @@ module _ {M : Type 1} (𝓤 : URA M) (H : Heap 𝓤) (A : Atoms 𝓤) (W : Given
         -- [what the callee asks; what the reader owns; its cell; the open borrow; obs; auth; the other parameters' facts; _7; …; _6; …; _5; …; _4; …; _3; …; _2; …; _1; …; room for _0; …]
         calls-at ! fm (Read 𝓤 H A at-mem run) known to (and-then ! (load ! (from ! (stop !)) (look ! 9 refl)) (and-then ! (load ! (from ! (stop !)) (look ! 7 refl)) (and-then ! (load ! (from ! (stop !)) (look ! 17 refl)) (and-then ! (load ! (from ! (stop !)) (look ! 15 refl)) (and-then ! (load ! (from ! (stop !)) (look ! 13 refl)) (no-more !)))))) (λ u.
         use1 W (later (some (λ (r : Reading). ((‵ (flft κ′ q′) ⊛ ‵ ftrue) ⊛ ‵ (S.the-row .own r (u ∷ []))) ⊛ raw (ensured 𝓤 H A read.ended (read.clauses 𝓤 H A at-mem run) (κ′, tt) (h .bytes, (h .at, (tank, (heaters, (step, tt))))) tt r)))) (id⊢ 𝓤 _) $ await ! tt $ pick ! (λ r.
-        split ! $ move ! (1 ∷ []) $ use1 W (raw (fact 𝓤 (r ≡ found))) (said r) $ heard ! (r ≡ found) (λ e. split ! $ move ! (1 ∷ []) $
+        split ! $ move ! (1 ∷ []) $ use1 W (raw (fact 𝓤 (Told r))) (said r) $ heard ! (Told r) (λ e. split ! $ move ! (1 ∷ []) $
         -- [the answer; the bytes' token; what the reader owns; its cell; the open borrow; obs; auth; the other parameters' facts; _7; …; _6; …; room for _5; …; _4; …; _3; …; _2; …; _1; …; room for _0; …]
         peeks ! S.the-row (Is S.the-row) (shows 𝓤 H A S.the-row) r (u ∷ []) (λ is.
         land ! (from ! (stop !)) (init ! 12 refl (LL.lawful S.the-type S′.the-laws 𝓤 H A W .typed r _ is .0)) $
