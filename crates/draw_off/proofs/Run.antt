@@ -2,7 +2,7 @@
 -- to repeat in its turn.
 use Prim.Native.Nat.{ℕ, zero, suc, _-_, _<_}
 use native.Mathlib.Omega.{arith}
-use mathlib.Core.Path.{_≡_, refl, sym, ap, _∙_}
+use mathlib.Core.Path.{_≡_, refl, sym, _∙_}
 use mathlib.Core.Bool.{Bool, true, false, cond, _||_, true≢false}
 use mathlib.Core.List.{List, [], _∷_}
 use lib.ListN.{length, getD, set}
@@ -83,30 +83,34 @@ module _ (vol : List Float) (feed : Float) (before : List Float) where
 -- ---- a layer that repeats, over a full one
 pub over-full : (vol held : List Float) (i : ℕ) (kept : KeptFilling) → RepeatsAt vol held i kept → (i ≡ 0 → ⊥) → (lt zero-f (kept .full) ≡ true → getD vol (i - 1) nan ≡ kept .full) → (lt zero-f (kept .full) ≡ true → getD held (i - 1) nan ≡ kept .full) → OverFull vol held i kept
 over-full vol held i kept upper there alike full =
-    let e : kept .full ≡ getD vol i nan = ap (λ (k : KeptFilling). k .full) (upper .own) in
-    let above : lt zero-f (kept .full) ≡ true = rw e (upper .repeats .above) in
-    record { upper = upper; there = omega (arith, there); alike = alike above ∙ e; full = full above ∙ e }
+    let above : lt zero-f (kept .full) ≡ true = rw (upper .volume) (upper .repeats .above) in
+    record { upper = upper; there = omega (arith, there); alike = alike above ∙ upper .volume; full = full above ∙ upper .volume }
 
 module _ (vol held : List Float) (i : ℕ) (kept : KeptFilling) (o : OverFull vol held i kept) where
   -- what it and the layer below it then hold
   abbrev heldAfter : List Float
   heldAfter = set (set held (i - 1) (kept .held)) i (kept .after)
 
-  pub repeated-lacks : noVolume (getD vol i nan ⊖ getD held i nan) ≡ false
-  repeated-lacks = o .upper .repeats .some
-
   -- it is filled as the refill fills it
   pub layer-repeated : (feed : Float) (temps : List Float) (mixes : Bool) → refillOf heldAfter (set temps i ((kept .held ⊛ getD temps i nan ⊕ kept .lack ⊛ getD temps (i - 1) nan) ⊘ kept .after)) mixes ≡ refillLayer vol feed temps i (refillOf held temps mixes)
   layer-repeated feed temps mixes =
-      let r = o .upper .repeats in
+      let u = o .upper in
+      let r = u .repeats in
       let h = o .there in
-      rw (o .upper .own)
+      rw (u .holds, u .lacks, u .has)
       (sym (rw (o .full, r .again) at (layer-next vol feed temps i (i - 1) (omega arith) held (r .some) (rw (o .full) (r .above)) (rw (o .full) (r .enough)) temps mixes)))
 
   -- and the layer below it repeats in its turn
   pub repeats-next : RepeatsAt vol heldAfter (i - 1) kept
   repeats-next =
-      let r = o .upper .repeats in
+      let u = o .upper in
       let h = o .there in
-      let e : getD heldAfter (i - 1) nan ≡ getD held i nan = getD-set-other (set held (i - 1) (kept .held)) i (i - 1) (kept .after) nan (λ q. omega arith) ∙ getD-set-same held (i - 1) (kept .held) nan (place-there held (i - 1) (rw (o .full) (r .above))) ∙ ap (λ (k : KeptFilling). k .held) (o .upper .own) in
-      record { own = rw (e, o .alike) (o .upper .own); repeats = rw (e, o .alike) r }
+      let lower = getD-set-same held (i - 1) (kept .held) nan (place-there held (i - 1) (rw (o .full) (u .repeats .above))) in
+      let e : getD heldAfter (i - 1) nan ≡ getD held i nan = getD-set-other (set held (i - 1) (kept .held)) i (i - 1) (kept .after) nan (λ q. omega arith) ∙ lower ∙ u .holds in
+      record {
+        repeats = rw (e, o .alike) (u .repeats);
+        volume = rw (o .alike) (u .volume);
+        holds = rw e (u .holds);
+        lacks = rw (e, o .alike) (u .lacks);
+        has = rw (e, o .alike) (u .has);
+      }

@@ -2,7 +2,7 @@
 -- take the same and have the same volume after. What the refill keeps of the one serves the other.
 use Prim.Native.Nat.{ℕ, _-_, _<_}
 use mathlib.Core.Path.{_≡_}
-use mathlib.Core.Bool.{Bool, true, false}
+use mathlib.Core.Bool.{true, false}
 use mathlib.Core.List.{List}
 use lib.ListN.{getD}
 use lib.Ieee.{Float, nan, lt}
@@ -17,14 +17,13 @@ pub record Repeats (full held : Float) : Type 0 where
   pub above : lt zero-f full ≡ true
   pub again : full ⊖ (full ⊖ held) ≡ held
 
--- the volumes of a layer that takes `full` and holds `held`
-abbrev pub keptFilling : Bool → Float → Float → KeptFilling
-keptFilling repeats full held = record { repeats = repeats; full = full; held = held; lack = full ⊖ held; after = held ⊕ (full ⊖ held) }
-
 -- the layer i repeats, and the volumes kept are its own
 pub record RepeatsAt (vol held : List Float) (i : ℕ) (kept : KeptFilling) : Type 0 where
-  pub own : kept ≡ keptFilling true (getD vol i nan) (getD held i nan)
   pub repeats : Repeats (getD vol i nan) (getD held i nan)
+  pub volume : kept .full ≡ getD vol i nan
+  pub holds : kept .held ≡ getD held i nan
+  pub lacks : kept .lack ≡ getD vol i nan ⊖ getD held i nan
+  pub has : kept .after ≡ getD held i nan ⊕ (getD vol i nan ⊖ getD held i nan)
 
 -- so it does, and the layer next below it is as large, and full
 pub record OverFull (vol held : List Float) (i : ℕ) (kept : KeptFilling) : Type 0 where

@@ -7,7 +7,7 @@ ghost use lib.Ieee.{Float};
 ghost use Rattle.mixing.specs.Limits.{maxLayers};
 ghost use Rattle.draw_off.specs.Refill.{takeShare, takeFrom, fromFeed, entersWarmer, refill};
 ghost use Rattle.draw_off.specs.Lent.{startFilling, fillingWith, refillOf};
-ghost use Rattle.draw_off.specs.Run.{Repeats, keptFilling, RepeatsAt, OverFull};
+ghost use Rattle.draw_off.specs.Run.{Repeats, RepeatsAt, OverFull};
 use mixing::limits::MAX_LAYERS;
 
 // The filling of one layer: what it lacks, the volume it has, that volume weighted by temperature, and the coldest water met.
@@ -125,33 +125,33 @@ fn does_repeat(full: f64, held: f64) -> bool
     numeric::compare::is_same(full - lack, held)
 }
 
-fn filling_kept(repeats: bool, full: f64, held: f64) -> KeptFilling
-    ensures { λ r. ⌜ r ≡ keptFilling repeats full held ⌝ }
-{
-    let lack = full - held;
-    KeptFilling {
-        repeats,
-        full,
-        held,
-        lack,
-        after: held + lack,
-    }
-}
-
 // The volumes of the layer under n, if it repeats.
 fn keep_filling(n: usize, vol: &[f64; MAX_LAYERS], held: &[f64; MAX_LAYERS]) -> KeptFilling
     requires { ⌜ n ≤ maxLayers ⌝ }
     ensures { λ r. ⌜ (r .repeats ≡ true → RepeatsAt (now (vol .entry)) (now (held .entry)) (n - 1) r) ⌝ }
 {
     if n == 0 {
-        return filling_kept(false, 0.0, 0.0);
+        return KeptFilling {
+            repeats: false,
+            full: 0.0,
+            held: 0.0,
+            lack: 0.0,
+            after: 0.0,
+        };
     }
     let full = vol[n - 1];
     let h = held[n - 1];
-    filling_kept(does_repeat(full, h), full, h)
+    let lack = full - h;
+    KeptFilling {
+        repeats: does_repeat(full, h),
+        full,
+        held: h,
+        lack,
+        after: h + lack,
+    }
 }
 
-// Whether the layer i, whose volumes are kept where it repeats, stands over a full layer.
+// Whether the layer i repeats, and stands over a full one as large; the volumes kept are those of the layer i.
 fn is_over_full(
     i: usize,
     kept: KeptFilling,
@@ -189,6 +189,7 @@ pub fn calc_temps_after_extraction(
     let mut i = n;
     'filling: while 0 < i {
         i -= 1;
+        // The layer takes from the one below it just what was taken from itself.
         if is_over_full(i, kept, vol, held) {
             temps[i] = (kept.held * temps[i] + kept.lack * temps[i - 1]) / kept.after;
             held[i - 1] = kept.held;

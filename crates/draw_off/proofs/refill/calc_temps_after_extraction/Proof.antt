@@ -12,7 +12,7 @@ use Rattle.draw_off.specs.Run.{RepeatsAt}
 use Rattle.draw_off.proofs.Descents.{lackNone, refill-descends}
 use Rattle.draw_off.proofs.Filled.{lack-told, layer-refilled, mixes-now, mixes-still}
 use Rattle.draw_off.proofs.Refilling.{RefillLeft, left-turn}
-use Rattle.draw_off.proofs.Run.{repeated-lacks, layer-repeated, repeats-next}
+use Rattle.draw_off.proofs.Run.{layer-repeated, repeats-next}
 use borrow.Author.Needs.{needs}
 use Rattle.draw_off.proofs.refill.calc_temps_after_extraction.Statement.{statement}
 use Rattle.draw_off.proofs.refill.calc_temps_after_extraction.Tie as tie
@@ -92,7 +92,7 @@ filling-again c =
     let at = test .before .filling in
     let a = test .before .before .before .before .args in
     let over = first .before .is-over-full .ensures (first .if1 .taken) in (
-      left-turn (a .vol .now) (a .feed) (a .temps .now) _ _ _ _ _ (at .mixes) _ _ (at .mixes) (at .inv .0) (test .filling-test .taken) (repeated-lacks _ _ _ (at .kept) over) (layer-repeated _ _ _ (at .kept) over (a .feed) _ (at .mixes)),
+      left-turn (a .vol .now) (a .feed) (a .temps .now) _ _ _ _ _ (at .mixes) _ _ (at .mixes) (at .inv .0) (test .filling-test .taken) (over .upper .repeats .some) (layer-repeated _ _ _ (at .kept) over (a .feed) _ (at .mixes)),
       λ e. repeats-next _ _ _ (at .kept) over,
     )
 
