@@ -12,8 +12,8 @@ use Rattle.numeric.specs.Descent.{Descent, descent-turn}
 use Rattle.cylinder.specs.Layers.{noVolume}
 use Rattle.draw_off.specs.Refill.{Filling, Refill, takeShare, takeFrom, takeBelow, fromFeed, entersWarmer, lackOf, fillingOf, refillLayer}
 use Rattle.draw_off.specs.Lent.{refillOf}
-use Rattle.draw_off.specs.Run.{SameBelow, FilledDownTo}
-use Rattle.draw_off.proofs.Descents.{lacksNone, refill-descends}
+use Rattle.draw_off.proofs.Descents.{lacksNone}
+use Rattle.draw_off.proofs.Untouched.{SameBelow}
 
 -- a layer is filled alike from temperatures that agree up to it
 module _ (vol : List Float) (feed : Float) (xs ys : List Float) where
@@ -31,16 +31,6 @@ module _ (vol : List Float) (feed : Float) (before : List Float) (n : ℕ) (star
   pub record RefillLeft (i : ℕ) (held temps : List Float) (mixes : Bool) : Type 0 where
     pub descent : Descent (lacksNone vol feed before) (refillLayer vol feed before) n start i (refillOf held temps mixes)
     pub same : SameBelow i temps before
-
-  -- a run of layers, filled together
-  pub left-run : (i : ℕ) (held temps : List Float) (mixes : Bool) (m : ℕ) (given filled : List Float) → RefillLeft i held temps mixes → FilledDownTo vol i held temps m given filled → RefillLeft m given filled mixes
-  left-run i held temps mixes m given filled l f =
-      let a = f .left .1 in
-      let b = l .descent .0 in
-      record {
-        descent = (omega arith, (rw (refill-descends vol feed before m (refillOf given filled mixes), refill-descends vol feed before i (refillOf held temps mixes)) at (f .refilled feed before mixes (l .same))) ∙ l .descent .1);
-        same = λ k h. f .untouched k h ∙ l .same k (omega arith);
-      }
 
   -- one layer, filled from the temperatures as they stand
   pub left-turn : (i : ℕ) (held temps : List Float) (mixes : Bool) (given : List Float) (x : Float) (b : Bool) → RefillLeft i held temps mixes → 0 < i → noVolume (lackOf vol feed before (i - 1) held) ≡ false → refillOf given (set temps (i - 1) x) b ≡ refillLayer vol feed temps (i - 1) (refillOf held temps mixes) → RefillLeft (i - 1) given (set temps (i - 1) x) b

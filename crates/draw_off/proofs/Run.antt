@@ -1,8 +1,7 @@
--- Proves that layers that repeat may be filled by their volumes worked once (01, Refill): one such layer is one turn of the refill, and leaves the next of them
--- as it was itself.
+-- Proves that a layer that repeats may be filled by the volumes kept of the layer above it (01, Refill): that is one turn of the refill, and it leaves the layer below
+-- to repeat in its turn.
 use Prim.Native.Nat.{ℕ, zero, suc, _-_, _<_}
 use native.Mathlib.Omega.{arith}
-use native.Mathlib.Numerals.{sub-one}
 use mathlib.Core.Path.{_≡_, refl, sym, _∙_}
 use mathlib.Core.Bool.{Bool, true, false, cond, _||_, true≢false}
 use mathlib.Core.List.{List, [], _∷_}
@@ -15,9 +14,10 @@ use Rattle.numeric.specs.Compare.{minOf2}
 use Rattle.numeric.specs.Close.{wideClose, close}
 use Rattle.numeric.proofs.Difference.{minus-self}
 use Rattle.cylinder.specs.Layers.{noVolume}
-use Rattle.draw_off.specs.Refill.{Filling, Refill, takeShare, takeFrom, takeBelow, fromFeed, entersWarmer, lackOf, fillingOf, refillLayer, refillLayers}
+use Rattle.draw_off.specs.declared.refill.KeptFilling.{KeptFilling}
+use Rattle.draw_off.specs.Refill.{Filling, takeShare, takeFrom, takeBelow, fromFeed, entersWarmer, lackOf, fillingOf, refillLayer}
 use Rattle.draw_off.specs.Lent.{refillOf}
-use Rattle.draw_off.specs.Run.{SameBelow, Repeats, FilledDownTo}
+use Rattle.draw_off.specs.Run.{RepeatsAt, OverFull}
 
 -- a lack that is some, and less than another, is finite
 lack-finite : (x y : Float) → noVolume x ≡ false → lt x y ≡ true → finite x ≡ true
@@ -80,56 +80,37 @@ module _ (vol : List Float) (feed : Float) (before : List Float) where
     unfolding refillLayer fromFeed entersWarmer lt ofBits
     layer-next temps mixes = rw (filling-next, or-false mixes)
 
-  refill-turn : (i : ℕ) (r : Refill) → 0 < i → noVolume (lackOf vol feed before (i - 1) (r .held)) ≡ false → refillLayers vol feed before i r ≡ refillLayers vol feed before (i - 1) (refillLayer vol feed before (i - 1) r)
-  unfolding refillLayers
-  refill-turn zero r h n = absurd (omega arith)
-  refill-turn (suc i) r h n = rw (sub-one, rw sub-one at n)
+-- ---- a layer that repeats, over a full one
+pub over-full : (vol held : List Float) (i : ℕ) (kept : KeptFilling) → RepeatsAt vol held i kept → (i ≡ 0 → ⊥) → (lt zero-f (kept .full) ≡ true → getD vol (i - 1) nan ≡ kept .full) → (lt zero-f (kept .full) ≡ true → getD held (i - 1) nan ≡ kept .full) → OverFull vol held i kept
+over-full vol held i kept upper there alike full =
+    let above : lt zero-f (kept .full) ≡ true = rw (upper .volume) (upper .repeats .above) in
+    record { upper = upper; there = omega (arith, there); alike = alike above ∙ upper .volume; full = full above ∙ upper .volume }
 
--- ---- the run
-pub none-filled : (vol : List Float) (n : ℕ) (held temps : List Float) → 0 < n → FilledDownTo vol n held temps n held temps
-none-filled vol n held temps h = record { left = (h, omega arith); refilled = λ feed before mixes same. refl; untouched = λ k l. refl }
+module _ (vol held : List Float) (i : ℕ) (kept : KeptFilling) (o : OverFull vol held i kept) where
+  -- what it and the layer below it then hold
+  abbrev heldAfter : List Float
+  heldAfter = set (set held (i - 1) (kept .held)) i (kept .after)
 
-module _ (vol : List Float) (full each : Float) where
-  abbrev after : Float
-  after = each ⊕ (full ⊖ each)
+  -- it is filled as the refill fills it
+  pub layer-repeated : (feed : Float) (temps : List Float) (mixes : Bool) → refillOf heldAfter (set temps i ((kept .held ⊛ getD temps i nan ⊕ kept .lack ⊛ getD temps (i - 1) nan) ⊘ kept .after)) mixes ≡ refillLayer vol feed temps i (refillOf held temps mixes)
+  layer-repeated feed temps mixes =
+      let u = o .upper in
+      let r = u .repeats in
+      let h = o .there in
+      rw (u .holds, u .lacks, u .has)
+      (sym (rw (o .full, r .again) at (layer-next vol feed temps i (i - 1) (omega arith) held (r .some) (rw (o .full) (r .above)) (rw (o .full) (r .enough)) temps mixes)))
 
-  -- what each layer of the run has, where the layer and the one below it had t and u
-  abbrev mixedWith : Float → Float → Float
-  mixedWith t u = (each ⊛ t ⊕ (full ⊖ each) ⊛ u) ⊘ after
-
-  -- where the run has come to: the layers from m on are filled, and the one under m is the next of them
-  pub record Alike (n : ℕ) (held₀ temps₀ : List Float) (m : ℕ) (held temps : List Float) : Type 0 where
-    pub filled : FilledDownTo vol n held₀ temps₀ m held temps
-    pub volume : getD vol (m - 1) nan ≡ full
-    pub holds : getD held (m - 1) nan ≡ each
-
-  pub alike-start : (n : ℕ) (held temps : List Float) → 0 < n → getD vol (n - 1) nan ≡ full → getD held (n - 1) nan ≡ each → Alike n held temps n held temps
-  alike-start n held temps h v e = record { filled = none-filled vol n held temps h; volume = v; holds = e }
-
-  module _ (n : ℕ) (held₀ temps₀ : List Float) (m : ℕ) (held temps : List Float) (r : Repeats full each) (h : 1 < m) (v : getD vol (m - 2) nan ≡ full) (d : getD held (m - 2) nan ≡ full) (a : Alike n held₀ temps₀ m held temps) where
-    layer-alike : (feed : Float) (before : List Float) (mixes : Bool) → SameBelow m temps before → refillLayer vol feed before (m - 1) (refillOf held temps mixes) ≡ refillOf (set (set held (m - 2) each) (m - 1) after) (set temps (m - 1) (mixedWith (getD temps (m - 1) nan) (getD temps (m - 2) nan))) mixes
-    layer-alike feed before mixes same =
-        let first = same (m - 1) (omega arith) in
-        let second = same (m - 2) (omega arith) in
-        rw (first, second)
-        (rw (a .volume, a .holds, d, r .again) at (layer-next vol feed before (m - 1) (m - 2) (omega arith) held (rw (a .volume, a .holds) (r .some)) (rw d (r .above)) (rw (a .volume, a .holds, d) (r .enough)) temps mixes))
-
-    refilled-next : (feed : Float) (before : List Float) (mixes : Bool) → SameBelow n temps₀ before → refillLayers vol feed before (m - 1) (refillOf (set (set held (m - 2) each) (m - 1) after) (set temps (m - 1) (mixedWith (getD temps (m - 1) nan) (getD temps (m - 2) nan))) mixes) ≡ refillLayers vol feed before n (refillOf held₀ temps₀ mixes)
-    refilled-next feed before mixes same =
-        let same-now : SameBelow m temps before = λ k l. let w = a .filled .left .1 in a .filled .untouched k l ∙ same k (omega arith) in
-        rw (← layer-alike feed before mixes same-now)
-        (sym (refill-turn vol feed before m (refillOf held temps mixes) (omega arith) (rw (a .volume, a .holds) (r .some))) ∙ a .filled .refilled feed before mixes same)
-
-    pub alike-next : Alike n held₀ temps₀ (m - 1) (set (set held (m - 2) each) (m - 1) after) (set temps (m - 1) (mixedWith (getD temps (m - 1) nan) (getD temps (m - 2) nan)))
-    alike-next =
-        let w = a .filled .left .1 in
-        let e : m - 1 - 1 ≡ m - 2 = omega arith in
-        record {
-          filled = record {
-            left = (omega arith, omega arith);
-            refilled = refilled-next;
-            untouched = λ k l. getD-set-other temps (m - 1) k _ nan (λ q. omega arith) ∙ a .filled .untouched k (omega arith);
-          };
-          volume = rw e v;
-          holds = rw e (getD-set-other (set held (m - 2) each) (m - 1) (m - 2) after nan (λ q. omega arith) ∙ getD-set-same held (m - 2) each nan (place-there held (m - 2) (rw d (r .above))));
-        }
+  -- and the layer below it repeats in its turn
+  pub repeats-next : RepeatsAt vol heldAfter (i - 1) kept
+  repeats-next =
+      let u = o .upper in
+      let h = o .there in
+      let lower = getD-set-same held (i - 1) (kept .held) nan (place-there held (i - 1) (rw (o .full) (u .repeats .above))) in
+      let e : getD heldAfter (i - 1) nan ≡ getD held i nan = getD-set-other (set held (i - 1) (kept .held)) i (i - 1) (kept .after) nan (λ q. omega arith) ∙ lower ∙ u .holds in
+      record {
+        repeats = rw (e, o .alike) (u .repeats);
+        volume = rw (o .alike) (u .volume);
+        holds = rw e (u .holds);
+        lacks = rw (e, o .alike) (u .lacks);
+        has = rw (e, o .alike) (u .has);
+      }

@@ -1,25 +1,30 @@
 -- Proves that a draw leaves the layers that it does not reach as they were (01, Draw), so that their Sum2 may be kept from one event to the next.
 use Prim.Native.Nat.{ℕ, zero, suc, _+_, _-_, _≤_, _<_}
 use native.Mathlib.Omega.{arith}
+use native.Mathlib.Numerals.{sub-one}
 use mathlib.Core.Path.{_≡_, refl, sym, ap, _∙_}
-use mathlib.Core.Bool.{false}
+use mathlib.Core.Bool.{Bool, true, false, cond}
 use mathlib.Core.List.{List}
 use lib.ListN.{getD}
 use lib.Seq.{getD-set-other}
-use lib.Ieee.{Float, nan}
+use lib.Ieee.{Float, nan, lt}
+use Rattle.numeric.specs.Double.{zero-f}
 use Rattle.numeric.specs.declared.sum2.Accumulator.{Accumulator}
-use Rattle.numeric.specs.Descent.{Descent, chosen, descent-turn}
+use Rattle.numeric.specs.Descent.{Descent, chosen, descent-start, descent-turn}
 use Rattle.numeric.specs.Turns.{turns, turns-split}
 use Rattle.numeric.specs.Sum2.{accumulate, nothing-added, sumTurn}
 use Rattle.cylinder.specs.declared.Cylinder.{Cylinder}
 use Rattle.cylinder.specs.Layers.{noVolume}
 use Rattle.draw_off.specs.declared.draw.Drawn.{Drawn}
 use Rattle.draw_off.specs.declared.kept.KeptSum.{KeptSum}
-use Rattle.draw_off.specs.Draw.{Draw, drawShare, drawLayer}
+use Rattle.draw_off.specs.Draw.{Draw, drawShare, drawLayer, drawLayers, unreached, drawFeed, drawStart, extract, untouched}
 use Rattle.draw_off.specs.Lent.{drawOf}
-use Rattle.draw_off.specs.Run.{SameBelow}
 use Rattle.draw_off.specs.Kept.{sumOfFirst, IsSumOf}
 use Rattle.draw_off.proofs.Descents.{restNone}
+
+-- the first n places have the same
+abbrev pub SameBelow : ℕ → List Float → List Float → Type 0
+SameBelow n xs ys = (k : ℕ) → k < n → getD xs k nan ≡ getD ys k nan
 
 module _ (c : Cylinder) (feed : Float) (temps : List Float) (wanted : Float) where
   -- the layer i leaves those below it
@@ -29,19 +34,63 @@ module _ (c : Cylinder) (feed : Float) (temps : List Float) (wanted : Float) whe
       chosen (λ (e : Draw). getD (e .held) k nan ≡ getD (d .held) k nan) (noVolume (getD (d .held) i nan)) d (drawShare c feed temps wanted i d) refl
       (getD-set-other (d .held) i k _ nan (λ q. omega arith))
 
-  module _ (n : ℕ) (held₀ : List Float) (d₀ : Drawn) where
-    -- where the draw has come to: the layers below i are left, and hold what they held
-    pub record LayersLeft (i : ℕ) (held : List Float) (d : Drawn) : Type 0 where
-      pub descent : Descent restNone (drawLayer c feed temps wanted) n (drawOf held₀ d₀) i (drawOf held d)
-      pub same : SameBelow i held held₀
+  reach-step : (i : ℕ) (d : Draw) → 0 < i → unreached c feed temps wanted i d ≡ cond (noVolume (d .rest)) i (unreached c feed temps wanted (i - 1) (drawLayer c feed temps wanted (i - 1) d))
+  unfolding unreached
+  reach-step zero d h = absurd (omega arith)
+  reach-step (suc i) d h = rw sub-one
 
-    pub left-layer : (i : ℕ) (held : List Float) (d : Drawn) (given : List Float) (e : Drawn) → LayersLeft i held d → 0 < i → noVolume (d .rest) ≡ false → drawOf given e ≡ drawLayer c feed temps wanted (i - 1) (drawOf held d) → LayersLeft (i - 1) given e
-    left-layer i held d given e l h some drawn = record {
-      descent = rw drawn (descent-turn restNone (drawLayer c feed temps wanted) n (drawOf held₀ d₀) i (drawOf held d) h some (l .descent));
-      same = λ k u. ap (λ (x : Draw). getD (x .held) k nan) drawn ∙ layer-leaves (i - 1) (drawOf held d) k u ∙ l .same k (omega arith);
+  module _ (n : ℕ) (d₀ : Draw) where
+    -- where the draw has come to: the layers below i are left
+    pub record LayersLeft (i : ℕ) (d : Draw) : Type 0 where
+      pub descent : Descent restNone (drawLayer c feed temps wanted) n d₀ i d
+      pub reach : unreached c feed temps wanted i d ≡ unreached c feed temps wanted n d₀
+
+    pub left-start : LayersLeft n d₀
+    left-start = record { descent = descent-start restNone (drawLayer c feed temps wanted) n d₀; reach = refl }
+
+    pub left-layer : (i : ℕ) (d e : Draw) → LayersLeft i d → 0 < i → noVolume (d .rest) ≡ false → e ≡ drawLayer c feed temps wanted (i - 1) d → LayersLeft (i - 1) e
+    left-layer i d e l h some drawn = record {
+      descent = rw drawn (descent-turn restNone (drawLayer c feed temps wanted) n d₀ i d h some (l .descent));
+      reach = rw drawn ((rw some at (sym (reach-step i d h))) ∙ l .reach);
     }
 
--- ---- their sum
+    -- the rest wanted is none
+    pub left-stop : (i : ℕ) (d : Draw) → LayersLeft i d → 0 < i → noVolume (d .rest) ≡ true → i ≡ unreached c feed temps wanted n d₀
+    left-stop i d l h none = (rw none at (sym (reach-step i d h))) ∙ l .reach
+
+    -- no layer is left
+    pub left-end : (i : ℕ) (d : Draw) → LayersLeft i d → i ≤ 0 → 0 ≡ unreached c feed temps wanted n d₀
+    unfolding unreached
+    left-end i d l h =
+        let e : i ≡ 0 = omega arith in
+        rw e at (l .reach)
+
+  -- what is not reached is as it was
+  pub reach-within : (n : ℕ) (d : Draw) → unreached c feed temps wanted n d ≤ n
+  unfolding unreached
+  reach-within zero d = omega arith
+  reach-within (suc i) d =
+      let rest = reach-within i (drawLayer c feed temps wanted i d) in
+      chosen (λ (m : ℕ). m ≤ suc i) (noVolume (d .rest)) (suc i) (unreached c feed temps wanted i (drawLayer c feed temps wanted i d)) (omega arith) (omega arith)
+
+  kept-either : (b : Bool) (m k : ℕ) (d e : Draw) (xs : List Float) → SameBelow m (d .held) xs → SameBelow k (e .held) xs → SameBelow (cond b m k) (cond b d e .held) xs
+  kept-either true m k d e xs p q = p
+  kept-either false m k d e xs p q = q
+
+  reach-leaves : (n : ℕ) (d : Draw) → SameBelow (unreached c feed temps wanted n d) (drawLayers c feed temps wanted n d .held) (d .held)
+  unfolding unreached drawLayers
+  reach-leaves zero d = λ k h. refl
+  reach-leaves (suc i) d =
+      let next = drawLayer c feed temps wanted i d in
+      let within = reach-within i next in
+      kept-either (noVolume (d .rest)) (suc i) (unreached c feed temps wanted i next) d (drawLayers c feed temps wanted i next) (d .held) (λ k h. refl)
+      (λ k h. reach-leaves i next k h ∙ layer-leaves i d k (omega arith))
+
+  feed-leaves : (d : Draw) → drawFeed c feed temps wanted d .held ≡ d .held
+  unfolding drawFeed
+  feed-leaves d = chosen (λ (e : Draw). e .held ≡ d .held) (lt zero-f (d .rest)) _ d refl refl
+
+-- ---- the sum of layers that are as they were
 module _ (xs ys : List Float) (n : ℕ) (same : SameBelow n xs ys) where
   terms-same : (k i : ℕ) (a : Accumulator) → i + k ≤ n → turns (sumTurn (λ (j : ℕ). getD xs j nan)) k i a ≡ turns (sumTurn (λ (j : ℕ). getD ys j nan)) k i a
   unfolding turns
@@ -49,9 +98,26 @@ module _ (xs ys : List Float) (n : ℕ) (same : SameBelow n xs ys) where
   terms-same (suc k) i a h = rw (same i (omega arith)) (terms-same k (i + 1) (accumulate a (getD ys i nan)) (omega arith))
 
   -- a kept sum is that of any layers that have the same
-  pub sum-moved : (kept : KeptSum) → kept .layers ≡ n → IsSumOf ys kept → IsSumOf xs kept
+  sum-moved : (kept : KeptSum) → kept .layers ≡ n → IsSumOf ys kept → IsSumOf xs kept
   unfolding sumOfFirst
   sum-moved kept e s = s ∙ rw e (sym (terms-same n 0 nothing-added (omega arith)))
+
+-- ---- what the draw did not reach, and its sum
+module _ (c : Cylinder) (feed : Float) (temps : List Float) (wanted : Float) (vol : List Float) (weighted drawn : Float) where
+  pub untouched-within : untouched c vol feed temps wanted weighted drawn ≤ c .layers
+  unfolding untouched
+  untouched-within = reach-within c feed temps wanted (c .layers) (drawStart vol wanted weighted drawn)
+
+  untouched-same : SameBelow (untouched c vol feed temps wanted weighted drawn) (extract c vol feed temps wanted weighted drawn .held) vol
+  unfolding untouched extract
+  untouched-same = rw (feed-leaves c feed temps wanted) (reach-leaves c feed temps wanted (c .layers) (drawStart vol wanted weighted drawn))
+
+  -- the draw leaves `held` and answers d; the sum kept of the full layers that it did not reach is still theirs
+  pub sum-untouched : (held : List Float) (d : Drawn) (kept : KeptSum) → (drawOf held d ≡ extract c vol feed temps wanted weighted drawn) × (d .untouched ≡ untouched c vol feed temps wanted weighted drawn) → (kept .layers ≡ d .untouched) × IsSumOf vol kept → (kept .layers ≤ c .layers) × IsSumOf held kept
+  sum-untouched held d kept draws sum =
+      let within = untouched-within in
+      let left : SameBelow (d .untouched) held vol = rw (draws .1) (rw (← draws .0) at untouched-same) in
+      (omega (arith, draws .1, sum .0), sum-moved held vol (d .untouched) left kept (sum .0) (sum .1))
 
 -- from a kept sum on, the other layers give the sum of all
 pub sum-finished : (xs : List Float) (kept : KeptSum) (n : ℕ) → kept .layers ≤ n → IsSumOf xs kept → turns (sumTurn (λ (j : ℕ). getD xs j nan)) (n - kept .layers) (kept .layers) (kept .sum) ≡ turns (sumTurn (λ (j : ℕ). getD xs j nan)) n 0 nothing-added

@@ -62,15 +62,27 @@ module _ (c : Cylinder) (feed : Float) (temps : List Float) (wanted : Float) whe
   drawLayers zero d = d
   drawLayers (suc i) d = cond (noVolume (d .rest)) d (drawLayers i (drawLayer i d))
 
+  -- of the layers below n, how many the draw does not reach: those that are left when the rest wanted is none
+  unfoldable pub unreached : ℕ → Draw → ℕ
+  unreached zero d = zero
+  unreached (suc i) d = cond (noVolume (d .rest)) (suc i) (unreached i (drawLayer i d))
+
   -- a rest above zero, however small, comes from the feed
   unfoldable pub drawFeed : Draw → Draw
   drawFeed d = cond (lt zero-f (d .rest)) (counted c (d .rest) feed (cold feed (d .rest)) (d .held) (d .rest) d) d
 
--- what an event has drawn: the layers, from full ones, and the feed; `weighted` and `drawn` run through all events
+-- each event starts from full layers; `weighted` and `drawn` run through all events
+abbrev pub drawStart : List Float → Float → Float → Float → Draw
+drawStart vol wanted weighted drawn = record { held = vol; rest = wanted; energy = zero-f; weighted = weighted; drawn = drawn }
+
+-- what an event has drawn: the layers, and then the feed
 unfoldable pub extract : Cylinder → List Float → Float → List Float → Float → Float → Float → Draw
 extract c vol feed temps wanted weighted drawn =
-    let start : Draw = record { held = vol; rest = wanted; energy = zero-f; weighted = weighted; drawn = drawn } in
-    drawFeed c feed temps wanted (drawLayers c feed temps wanted (c .layers) start)
+    drawFeed c feed temps wanted (drawLayers c feed temps wanted (c .layers) (drawStart vol wanted weighted drawn))
+
+-- how many layers, from the bottom, it leaves full
+unfoldable pub untouched : Cylinder → List Float → Float → List Float → Float → Float → Float → ℕ
+untouched c vol feed temps wanted weighted drawn = unreached c feed temps wanted (c .layers) (drawStart vol wanted weighted drawn)
 
 -- volume used: the tank's volume - Sum2 of what the layers still hold
 unfoldable pub volumeUsed : Cylinder → List Float → Float

@@ -1,19 +1,14 @@
--- States a run of layers that repeat (01, Refill): each takes from the full layer below it just what the layer above took from it, so that all of them lack
--- the same, take the same and have the same volume after. Such a run is a part of the refill, and leaves what the refill leaves.
-use Prim.Native.Nat.{ℕ, _≤_, _<_}
+-- States layers that repeat (01, Refill): a layer takes from the full layer below it just what the layer above took from it, so that both lack the same,
+-- take the same and have the same volume after. What the refill keeps of the one serves the other.
+use Prim.Native.Nat.{ℕ, _-_, _<_}
 use mathlib.Core.Path.{_≡_}
-use mathlib.Core.Bool.{Bool, true, false}
+use mathlib.Core.Bool.{true, false}
 use mathlib.Core.List.{List}
 use lib.ListN.{getD}
 use lib.Ieee.{Float, nan, lt}
-use Rattle.numeric.specs.Double.{_⊖_, zero-f}
+use Rattle.numeric.specs.Double.{_⊕_, _⊖_, zero-f}
 use Rattle.cylinder.specs.Layers.{noVolume}
-use Rattle.draw_off.specs.Refill.{refillLayers}
-use Rattle.draw_off.specs.Lent.{refillOf}
-
--- the first n places have the same
-abbrev pub SameBelow : ℕ → List Float → List Float → Type 0
-SameBelow n xs ys = (k : ℕ) → k < n → getD xs k nan ≡ getD ys k nan
+use Rattle.draw_off.specs.declared.refill.KeptFilling.{KeptFilling}
 
 -- a layer that holds `held` of `full` lacks some; a full layer below it has more than that, and is left with `held` in its turn
 pub record Repeats (full held : Float) : Type 0 where
@@ -22,9 +17,17 @@ pub record Repeats (full held : Float) : Type 0 where
   pub above : lt zero-f full ≡ true
   pub again : full ⊖ (full ⊖ held) ≡ held
 
--- of the layers below n those from m on are filled: refilling the others gives what refilling all gives, whatever the feed and whatever the temperatures from before
--- the event above the layers that are left
-pub record FilledDownTo (vol : List Float) (n : ℕ) (held temps : List Float) (m : ℕ) (given filled : List Float) : Type 0 where
-  pub left : (0 < m) × (m ≤ n)
-  pub refilled : (feed : Float) (before : List Float) (mixes : Bool) → SameBelow n temps before → refillLayers vol feed before m (refillOf given filled mixes) ≡ refillLayers vol feed before n (refillOf held temps mixes)
-  pub untouched : SameBelow m filled temps
+-- the layer i repeats, and the volumes kept are its own
+pub record RepeatsAt (vol held : List Float) (i : ℕ) (kept : KeptFilling) : Type 0 where
+  pub repeats : Repeats (getD vol i nan) (getD held i nan)
+  pub volume : kept .full ≡ getD vol i nan
+  pub holds : kept .held ≡ getD held i nan
+  pub lacks : kept .lack ≡ getD vol i nan ⊖ getD held i nan
+  pub has : kept .after ≡ getD held i nan ⊕ (getD vol i nan ⊖ getD held i nan)
+
+-- so it does, and the layer next below it is as large, and full
+pub record OverFull (vol held : List Float) (i : ℕ) (kept : KeptFilling) : Type 0 where
+  pub upper : RepeatsAt vol held i kept
+  pub there : 0 < i
+  pub alike : getD vol (i - 1) nan ≡ getD vol i nan
+  pub full : getD held (i - 1) nan ≡ getD vol i nan

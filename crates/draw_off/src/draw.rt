@@ -4,9 +4,9 @@ ghost use mathlib.Core.List.{List};
 ghost use Prim.Native.Nat.{_≤_, _<_};
 ghost use lib.Ieee.{Float};
 ghost use Rattle.mixing.specs.Limits.{maxLayers};
-ghost use Rattle.draw_off.specs.Draw.{givesAll, share, restAfter, counted, drawShare, drawLayer, drawLayers, drawFeed, extract, volumeUsed};
+ghost use Rattle.draw_off.specs.Draw.{givesAll, share, restAfter, counted, drawShare, drawLayer, drawLayers, unreached, drawFeed};
+ghost use Rattle.draw_off.specs.Draw.{extract, untouched, volumeUsed};
 ghost use Rattle.draw_off.specs.Lent.{drawOf};
-ghost use Rattle.draw_off.specs.Run.{SameBelow};
 ghost use Rattle.draw_off.specs.Kept.{IsSumOf};
 use crate::kept::KeptSum;
 use cylinder::Cylinder;
@@ -18,7 +18,7 @@ pub struct Drawn {
     pub energy: f64,
     pub weighted: f64,
     pub drawn: f64,
-    // The layers below this one are as they were.
+    // How many layers, from the bottom, the draw did not reach.
     pub untouched: usize,
 }
 
@@ -116,7 +116,8 @@ fn draw_layers(
     start: Drawn,
 ) -> Drawn
     requires { ⌜ c .layers ≤ maxLayers ⌝ }
-    ensures { λ r. ⌜ (drawOf (now (held .exit)) r ≡ drawLayers c feed (now (temps .entry)) wanted (c .layers) (drawOf (now (held .entry)) start)) × (r .untouched ≤ c .layers) × SameBelow (r .untouched) (now (held .exit)) (now (held .entry)) ⌝ }
+    ensures drawn { λ r. ⌜ drawOf (now (held .exit)) r ≡ drawLayers c feed (now (temps .entry)) wanted (c .layers) (drawOf (now (held .entry)) start) ⌝ }
+    ensures left { λ r. ⌜ r .untouched ≡ unreached c feed (now (temps .entry)) wanted (c .layers) (drawOf (now (held .entry)) start) ⌝ }
 {
     let mut d = start;
     let mut i = c.layers;
@@ -158,7 +159,8 @@ pub fn extract_hot_water(
     held: &mut [f64; MAX_LAYERS],
 ) -> Drawn
     requires { ⌜ c .layers ≤ maxLayers ⌝ }
-    ensures { λ r. ⌜ (drawOf (now (held .exit)) r ≡ extract c (now (held .entry)) feed (now (temps .entry)) wanted weighted drawn) × (r .untouched ≤ c .layers) × SameBelow (r .untouched) (now (held .exit)) (now (held .entry)) ⌝ }
+    ensures drawn { λ r. ⌜ drawOf (now (held .exit)) r ≡ extract c (now (held .entry)) feed (now (temps .entry)) wanted weighted drawn ⌝ }
+    ensures left { λ r. ⌜ r .untouched ≡ untouched c (now (held .entry)) feed (now (temps .entry)) wanted weighted drawn ⌝ }
 {
     let start = Drawn {
         rest: wanted,

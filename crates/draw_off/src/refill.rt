@@ -3,13 +3,11 @@ ghost use mathlib.Core.Path.{_≡_};
 ghost use mathlib.Core.Bool.{true};
 ghost use mathlib.Core.List.{List};
 ghost use Prim.Native.Nat.{_-_, _≤_, _<_};
-ghost use lib.ListN.{getD};
-ghost use lib.Ieee.{Float, nan, lt};
-ghost use Rattle.numeric.specs.Double.{zero-f};
+ghost use lib.Ieee.{Float};
 ghost use Rattle.mixing.specs.Limits.{maxLayers};
 ghost use Rattle.draw_off.specs.Refill.{takeShare, takeFrom, fromFeed, entersWarmer, refill};
 ghost use Rattle.draw_off.specs.Lent.{startFilling, fillingWith, refillOf};
-ghost use Rattle.draw_off.specs.Run.{Repeats, FilledDownTo};
+ghost use Rattle.draw_off.specs.Run.{Repeats, RepeatsAt, OverFull};
 use mixing::limits::MAX_LAYERS;
 
 // The filling of one layer: what it lacks, the volume it has, that volume weighted by temperature, and the coldest water met.
@@ -18,6 +16,16 @@ pub struct LayerFilling {
     pub volume: f64,
     pub weighted: f64,
     pub coldest: f64,
+}
+
+// The volumes of a layer that repeats: it takes `full` and holds `held`; it lacks `lack`, and has `after` when it is filled. A full layer below it comes to have
+// the same, so they are worked once, and no layer waits for the one above it.
+pub struct KeptFilling {
+    pub repeats: bool,
+    pub full: f64,
+    pub held: f64,
+    pub lack: f64,
+    pub after: f64,
 }
 
 // A layer that takes `full` still holds `held` at temperature t; t counts as met even when it is empty.
@@ -97,17 +105,7 @@ fn does_enter_warmer(feed: f64, f: LayerFilling) -> bool
     false
 }
 
-// A layer of the volume v holds all of it.
-fn is_full(full: f64, v: f64, held: f64) -> bool
-    ensures { λ r. ⌜ (r ≡ true → lt zero-f full ≡ true → (v ≡ full) × (held ≡ full)) ⌝ }
-{
-    if !numeric::compare::is_same(v, full) {
-        return false;
-    }
-    numeric::compare::is_same(held, full)
-}
-
-// Whether full layers below a layer that holds `held` come, one after the other, to lack what it lacks.
+// Whether a full layer below a layer that holds `held` comes to lack what this one lacks.
 fn does_repeat(full: f64, held: f64) -> bool
     ensures { λ r. ⌜ (r ≡ true → Repeats full held) ⌝ }
 {
@@ -127,49 +125,52 @@ fn does_repeat(full: f64, held: f64) -> bool
     numeric::compare::is_same(full - lack, held)
 }
 
-// Layers that repeat, from the one under n down, each over a full one. Their volumes are worked once, and no layer waits for the one above it.
-fn fill_alike(
-    n: usize,
-    full: f64,
-    each: f64,
-    vol: &[f64; MAX_LAYERS],
-    temps: &mut [f64; MAX_LAYERS],
-    held: &mut [f64; MAX_LAYERS],
-) -> usize
-    requires { ⌜ (0 < n) × (n ≤ maxLayers) × Repeats full each × (getD (now vol) (n - 1) nan ≡ full) × (getD (now held) (n - 1) nan ≡ each) ⌝ }
-    ensures { λ r. ⌜ FilledDownTo (now (vol .entry)) n (now (held .entry)) (now (temps .entry)) r (now (held .exit)) (now (temps .exit)) ⌝ }
+// The volumes of the layer under n, if it repeats.
+fn keep_filling(n: usize, vol: &[f64; MAX_LAYERS], held: &[f64; MAX_LAYERS]) -> KeptFilling
+    requires { ⌜ n ≤ maxLayers ⌝ }
+    ensures { λ r. ⌜ (r .repeats ≡ true → RepeatsAt (now (vol .entry)) (now (held .entry)) (n - 1) r) ⌝ }
 {
-    let lack = full - each;
-    let after = each + lack;
-    let mut m = n;
-    while 1 < m {
-        if !is_full(full, vol[m - 2], held[m - 2]) {
-            return m;
-        }
-        temps[m - 1] = (each * temps[m - 1] + lack * temps[m - 2]) / after;
-        held[m - 2] = each;
-        held[m - 1] = after;
-        m -= 1;
+    if n == 0 {
+        return KeptFilling {
+            repeats: false,
+            full: 0.0,
+            held: 0.0,
+            lack: 0.0,
+            after: 0.0,
+        };
     }
-    m
+    let full = vol[n - 1];
+    let h = held[n - 1];
+    let lack = full - h;
+    KeptFilling {
+        repeats: does_repeat(full, h),
+        full,
+        held: h,
+        lack,
+        after: h + lack,
+    }
 }
 
-// The run that the layer under n begins, if it repeats: the answer is how many layers are left.
-fn fill_run(
-    n: usize,
+// Whether the layer i repeats, and stands over a full one as large; the volumes kept are those of the layer i.
+fn is_over_full(
+    i: usize,
+    kept: KeptFilling,
     vol: &[f64; MAX_LAYERS],
-    temps: &mut [f64; MAX_LAYERS],
-    held: &mut [f64; MAX_LAYERS],
-) -> usize
-    requires { ⌜ (0 < n) × (n ≤ maxLayers) ⌝ }
-    ensures { λ r. ⌜ FilledDownTo (now (vol .entry)) n (now (held .entry)) (now (temps .entry)) r (now (held .exit)) (now (temps .exit)) ⌝ }
+    held: &[f64; MAX_LAYERS],
+) -> bool
+    requires { ⌜ (i < maxLayers) × (kept .repeats ≡ true → RepeatsAt (now vol) (now held) i kept) ⌝ }
+    ensures { λ r. ⌜ (r ≡ true → OverFull (now (vol .entry)) (now (held .entry)) i kept) ⌝ }
 {
-    let full = vol[n - 1];
-    let each = held[n - 1];
-    if does_repeat(full, each) {
-        return fill_alike(n, full, each, vol, temps, held);
+    if !kept.repeats {
+        return false;
     }
-    n
+    if i == 0 {
+        return false;
+    }
+    if !numeric::compare::is_same(vol[i - 1], kept.full) {
+        return false;
+    }
+    numeric::compare::is_same(held[i - 1], kept.full)
 }
 
 // The answer is whether the event ends in a mixing. The temperatures met are those from before the event: a layer is written when all above it are.
@@ -184,10 +185,17 @@ pub fn calc_temps_after_extraction(
     ensures { λ r. ⌜ refillOf (now (held .exit)) (now (temps .exit)) r ≡ refill n (now (vol .entry)) feed (now (temps .entry)) (now (held .entry)) ⌝ }
 {
     let mut mixes = false;
+    let mut kept = keep_filling(n, vol, held);
     let mut i = n;
     'filling: while 0 < i {
-        i = fill_run(i, vol, temps, held);
         i -= 1;
+        // The layer takes from the one below it just what was taken from itself.
+        if is_over_full(i, kept, vol, held) {
+            temps[i] = (kept.held * temps[i] + kept.lack * temps[i - 1]) / kept.after;
+            held[i - 1] = kept.held;
+            held[i] = kept.after;
+            continue 'filling;
+        }
         let mut f = start_filling(vol[i], held[i], temps[i]);
         if cylinder::is_no_volume(f.lack) {
             break 'filling;
@@ -206,6 +214,7 @@ pub fn calc_temps_after_extraction(
         f = take_from_feed(feed, f);
         temps[i] = f.weighted / f.volume;
         held[i] = f.volume;
+        kept = keep_filling(i, vol, held);
     }
     mixes
 }

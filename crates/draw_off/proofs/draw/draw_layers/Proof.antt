@@ -1,21 +1,21 @@
--- `draw::draw_layers` meets its contract (01, Draw). The loop's invariant: drawing from the layers left gives the whole draw, and they hold what they held.
-use mathlib.Core.Path.{refl, sym, _∙_}
-use native.Mathlib.Omega.{arith}
-use Rattle.numeric.specs.Descent.{descent-start, descent-stop, descent-end}
+-- `draw::draw_layers` meets its contract (01, Draw). The loop's invariant: drawing from the layers left gives the whole draw, and leaves as many of them as that does.
+use mathlib.Core.Path.{sym, _∙_}
+use Rattle.numeric.specs.Descent.{descent-stop, descent-end}
+use Rattle.draw_off.specs.Lent.{drawOf}
 use Rattle.draw_off.proofs.Descents.{draw-descends}
-use Rattle.draw_off.proofs.Untouched.{LayersLeft, left-layer}
+use Rattle.draw_off.proofs.Untouched.{LayersLeft, left-start, left-layer, left-stop, left-end}
 use borrow.Author.Needs.{needs}
 use Rattle.draw_off.proofs.draw.draw_layers.Statement.{statement}
 use Rattle.draw_off.proofs.draw.draw_layers.Tie as tie
 
 abbrev Inv-loop : tie.InvT-loop
-Inv-loop c feed temps wanted held₀ d₀ i₀ held d i = LayersLeft c feed temps wanted i₀ held₀ d₀ i held d
+Inv-loop c feed temps wanted held₀ d₀ i₀ held d i = LayersLeft c feed temps wanted i₀ (drawOf held₀ d₀) i (drawOf held d)
 
 abbrev μ-loop : tie.MeasureT-loop
 μ-loop c feed temps wanted held₀ d₀ i₀ held d i = i
 
 loop-holds : tie.Need-loop-holds Inv-loop μ-loop
-loop-holds c = record { descent = descent-start _ _ _ _; same = λ k l. refl }
+loop-holds c = left-start _ _ _ _ _ _
 
 is-no-volume-requires : tie.Need-is-no-volume-requires Inv-loop μ-loop
 is-no-volume-requires c κs = search needs
@@ -24,7 +24,8 @@ returns : tie.Need-returns Inv-loop μ-loop
 returns c =
     let test = c .before .before in
     let left = test .before .loop .inv in
-    (rw draw-descends (descent-stop _ _ _ _ _ _ (test .loop-test .taken) (sym (c .before .is-no-volume .ensures) ∙ c .if1 .taken) (left .descent)), left .descent .0, left .same)
+    let none = sym (c .before .is-no-volume .ensures) ∙ c .if1 .taken in
+    (rw draw-descends (descent-stop _ _ _ _ _ _ (test .loop-test .taken) none (left .descent)), left-stop _ _ _ _ _ _ _ _ left (test .loop-test .taken) none)
 
 sub-i : tie.Need-sub-i Inv-loop μ-loop
 sub-i c = search needs
@@ -39,12 +40,12 @@ loop-again : tie.Need-loop-again Inv-loop μ-loop
 loop-again c =
     let none = c .before .before in
     let test = none .before .before in
-    left-layer _ _ _ _ _ _ _ _ _ (test .before .loop .d) _ (c .draw-layer .result) (test .before .loop .inv) (test .loop-test .taken) (sym (none .before .is-no-volume .ensures) ∙ none .if1 .left) (c .draw-layer .ensures)
+    left-layer _ _ _ _ _ _ _ _ _ (test .before .loop .inv) (test .loop-test .taken) (sym (none .before .is-no-volume .ensures) ∙ none .if1 .left) (c .draw-layer .ensures)
 
 returns-2 : tie.Need-returns-2 Inv-loop μ-loop
 returns-2 c =
     let left = c .before .loop .inv in
-    (rw draw-descends (descent-end _ _ _ _ _ _ (c .loop-test .left) (left .descent)), omega arith, λ k l. absurd (omega arith))
+    (rw draw-descends (descent-end _ _ _ _ _ _ (c .loop-test .left) (left .descent)), left-end _ _ _ _ _ _ _ _ left (c .loop-test .left))
 
 pub draw-layers-spec : {M : Type 1} → statement M
 draw-layers-spec =

@@ -1,5 +1,5 @@
 -- `draw::extract_hot_water` meets its contract (01, Draw): the layers from full ones, and then the feed.
-use Rattle.draw_off.specs.Draw.{extract}
+use Rattle.draw_off.specs.Draw.{extract, untouched}
 use borrow.Author.Needs.{needs}
 use Rattle.draw_off.proofs.draw.extract_hot_water.Statement.{statement}
 use Rattle.draw_off.proofs.draw.extract_hot_water.Tie as tie
@@ -11,10 +11,10 @@ draw-feed-requires : tie.Need-draw-feed-requires
 draw-feed-requires c κs = search needs
 
 returns : tie.Need-returns
-unfolding extract
+unfolding extract untouched
 returns c =
     let layers = c .before .draw-layers .ensures in
-    (rw (← layers .0) (c .draw-feed .ensures _ _ _), layers .1, layers .2)
+    (rw (← layers .0) (c .draw-feed .ensures _ _ _), layers .1)
 
 pub extract-hot-water-spec : {M : Type 1} → statement M
 extract-hot-water-spec = tie.close (tie.spec draw-layers-requires draw-feed-requires returns)

@@ -1,5 +1,6 @@
 -- `event::draw_event` meets its contract (01, Draw; Refill; refusals 9 and 10): the draw, the refill, the mixing and the event's number, in the order of the work.
-use Rattle.draw_off.proofs.Untouched.{sum-moved}
+use native.Mathlib.Omega.{arith}
+use Rattle.draw_off.proofs.Untouched.{untouched-within, sum-untouched}
 use Rattle.draw_off.proofs.Worked.{event-worked}
 use borrow.Author.Needs.{needs}
 use Rattle.draw_off.proofs.event.draw_event.Statement.{statement}
@@ -9,15 +10,20 @@ extract-hot-water-requires : tie.Need-extract-hot-water-requires
 extract-hot-water-requires c κs = search needs
 
 keep-sum-requires : tie.Need-keep-sum-requires
-keep-sum-requires c κs = search needs
+keep-sum-requires c κs =
+    let start = c .before .before .before .before in
+    let a = start .args in
+    let within = untouched-within (a .c) (a .feed) (a .temps .now) (a .wanted) (a .vol .now) (a .totals .weighted) (a .totals .drawn) in
+    (omega (arith, c .extract-hot-water .ensures .1, within, start .pre .1), start .pre .3)
 
 volume-used-requires : tie.Need-volume-used-requires
 volume-used-requires c κs =
     let kept = c .before .before .before in
     let draw = kept .before in
-    let a = draw .before .before .before .before in
-    let left = draw .extract-hot-water .ensures in
-    (a .pre .1, rw (kept .keep-sum .ensures .0) (left .1), sum-moved _ _ _ (left .2) (kept .keep-sum .result) (kept .keep-sum .ensures .0) (kept .keep-sum .ensures .1))
+    let start = draw .before .before .before .before in
+    let a = start .args in
+    let sum = sum-untouched (a .c) (a .feed) (a .temps .now) (a .wanted) (a .vol .now) (a .totals .weighted) (a .totals .drawn) _ (draw .extract-hot-water .result) (kept .keep-sum .result) (draw .extract-hot-water .ensures) (kept .keep-sum .ensures) in
+    (start .pre .1, sum .0, sum .1)
 
 calc-temps-after-extraction-requires : tie.Need-calc-temps-after-extraction-requires
 calc-temps-after-extraction-requires c κs = search needs
