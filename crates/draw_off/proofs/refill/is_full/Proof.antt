@@ -18,7 +18,7 @@ is-same-requires-2 c κs = search needs
 returns-2 : tie.Need-returns-2
 returns-2 c =
     let first = c .before in
-    λ e l. (first .before .is-same .ensures (not-false _ (first .if1 .left)) l, c .is-same2 .ensures e l)
+    λ e l. (first .before .is-same .ensures .1 (not-false _ (first .if1 .left)) l, c .is-same2 .ensures .1 e l)
 
 pub is-full-spec : {M : Type 1} → statement M
 is-full-spec = tie.close (tie.spec is-same-requires returns is-same-requires-2 returns-2)
