@@ -1,8 +1,12 @@
 /* What no proof can speak of, since the logic has one not-a-number: that a refused step, a refused mix and a mix of one layer hand back every place bit for bit.
-   All places, used and unused, are filled with patterns of not-a-number, each place with a payload of its own; the memory is compared after the call. */
+   All places, used and unused, are filled with patterns of not-a-number, each place with a payload of its own; the memory is compared after the call.
+   Every step is run both ways: the exported step, which writes nothing where it is refused, and the method by value, whose answer is written back. */
 #include "shim.h"
 #include <stdio.h>
 #include <string.h>
+#include <sys/mman.h>
+#include <sys/wait.h>
+#include <unistd.h>
 
 /* Quiet, signalling, and both with the sign set; the payload is never zero. */
 static const uint64_t kinds[4] = {0x7ff8000000000000u, 0x7ff0000000000000u, 0xfff8000000000000u, 0xfff0000000000000u};
@@ -155,6 +159,15 @@ static const refusal refusals[] = {
     {9, unordered},   {9, heat_large},  {10, energy_large}, {10, loss_large},
 };
 
+/* The two ways to step. */
+typedef struct {
+    const char *name;
+    uint8_t (*step)(tank_arrays *, report_arrays *, const step_arrays *);
+} way;
+
+static const way ways[] = {{"step", step}, {"demand_hot_water", demand_hot_water}};
+enum { WAYS = 2 };
+
 static unsigned long calls, places, wrong;
 
 /* Compares n bytes, as so many places, and counts those that differ. */
@@ -176,26 +189,54 @@ static void number_is(int got, int want, const char *what, int which) {
     }
 }
 
-static void refused_steps(int which) {
-    for (size_t k = 0; k < sizeof refusals / sizeof *refusals; k++) {
+enum { REFUSALS = sizeof refusals / sizeof *refusals };
+
+static void refused_steps(const way *w, int which) {
+    for (size_t k = 0; k < REFUSALS; k++) {
         static lent m, kept;
         fill_lent(&m, which);
         refusals[k].prepare(&m);
         memcpy(&kept, &m, sizeof m);
-        number_is(step(&m.tank, &m.report, &m.step), refusals[k].number, "refused step", which);
-        same(&m, &kept, sizeof m, 8, "refused step", which);
+        number_is(w->step(&m.tank, &m.report, &m.step), refusals[k].number, w->name, which);
+        same(&m, &kept, sizeof m, 8, w->name, which);
+    }
+}
+
+/* A refused step on memory that can be read and not written: whether it came to its end. */
+static int ends_unwritten(const way *w, const refusal *refused) {
+    size_t page = (size_t)sysconf(_SC_PAGESIZE), bytes = (sizeof(lent) + page - 1) / page * page;
+    lent *m = mmap(NULL, bytes, PROT_READ | PROT_WRITE, MAP_PRIVATE | MAP_ANONYMOUS, -1, 0);
+    int status = 1;
+    if (m == MAP_FAILED) return -1;
+    fill_lent(m, 1);
+    refused->prepare(m);
+    if (mprotect(m, bytes, PROT_READ) != 0) return -1;
+    pid_t child = fork();
+    if (child == 0) _exit(w->step(&m->tank, &m->report, &m->step) != refused->number);
+    if (child < 0 || waitpid(child, &status, 0) != child) return -1;
+    munmap(m, bytes);
+    return WIFSIGNALED(status) ? 0 : WEXITSTATUS(status) == 0 ? 1 : -1;
+}
+
+/* The exported step writes nothing where it is refused. The method's answer is written: else a comparison after it would show nothing. */
+static void written_back(void) {
+    for (size_t k = 0; k < REFUSALS; k++) {
+        if (ends_unwritten(&ways[0], &refusals[k]) != 1 || ends_unwritten(&ways[1], &refusals[k]) != 0) {
+            wrong++;
+            printf("refusal %d: the exported step wrote, or the method's answer was not written\n", refusals[k].number);
+        }
     }
 }
 
 /* An accepted step: the tank's unused places as they were, the report's zero; a thermostat position that is absent is no place of its own, and stays too. */
-static void accepted_steps(int which) {
+static void accepted_steps(const way *w, int which) {
     static lent m, kept;
     static const double zero;
     fill_lent(&m, which);
     right_points(&m);
     fill(&m.tank.heaters[2 * HEATERS], 1, which, 66);
     memcpy(&kept, &m, sizeof m);
-    number_is(step(&m.tank, &m.report, &m.step), 0, "accepted step", which);
+    number_is(w->step(&m.tank, &m.report, &m.step), 0, w->name, which);
     same(m.before, kept.before, sizeof m.before, 8, "before", which);
     same(m.tank.counts, kept.tank.counts, sizeof m.tank.counts, 8, "counts", which);
     same(m.tank.numbers, kept.tank.numbers, sizeof m.tank.numbers, 8, "numbers", which);
@@ -252,12 +293,12 @@ static int notices(void) {
 static void is(double got, double want, const char *what) { same(&got, &want, 8, 8, what, -1); }
 
 /* Figures of 01 with an answer in each array, to see that this file and the library mean the same places. */
-static void figures(void) {
+static void figures(const way *w) {
     tank_arrays t = {{2, 2}, {32, 27, 1, 1, 20, 0.125}, {0}, {3, 3, 0, 0, 0, 0, 0, 0, 0.5, 0}, {0}, {0}};
     report_arrays r = {{0}, {0}, {0}, {0}};
     step_arrays a = {12, {0, 2}, {0}, {0}, {0}};
     number_is(make(36, &t), 0, "make", -1);
-    number_is(step(&t, &r, &a), 0, "standby 27", -1);
+    number_is(w->step(&t, &r, &a), 0, "standby 27", -1);
     is(t.temps[0], 34.4375, "layer 0");
     is(t.temps[1], 34.4375, "layer 1");
     is(r.totals[2], 36, "average");
@@ -267,7 +308,7 @@ static void figures(void) {
     tank_arrays u = {{2, 1}, {32, 0, 1, 1, 20, 1}, {0}, {160}, {0}, {0}};
     step_arrays b = {12, {0, 1}, {0}, {1, 0, 0, 0, 0, 0, 0, 0, 1}, {41, 0, 0, 0, 0, 0, 0, 0, 50}};
     number_is(make(40, &u), 0, "make", -1);
-    number_is(step(&u, &r, &b), 0, "set points 41 and 50", -1);
+    number_is(w->step(&u, &r, &b), 0, "set points 41 and 50", -1);
     is(u.temps[1], 45, "heated layer");
     is(r.figures[0], 160, "adjusted");
     is(r.figures[8], 160, "supplied");
@@ -276,7 +317,7 @@ static void figures(void) {
     b.points[8] = 42;
     u.flags[0] = 0;
     u.temps[0] = u.temps[1] = 40;
-    number_is(step(&u, &r, &b), 0, "set points 41 and 42", -1);
+    number_is(w->step(&u, &r, &b), 0, "set points 41 and 42", -1);
     is(u.temps[0], 42, "limited layer");
     is(r.figures[0], 64, "adjusted");
     double three[3] = {30, 40, 5};
@@ -289,11 +330,14 @@ static void figures(void) {
 
 int main(void) {
     for (int which = 0; which < PATTERNS; which++) {
-        refused_steps(which);
-        accepted_steps(which);
+        for (int w = 0; w < WAYS; w++) {
+            refused_steps(&ways[w], which);
+            accepted_steps(&ways[w], which);
+        }
         mixes(which);
     }
-    figures();
+    for (int w = 0; w < WAYS; w++) figures(&ways[w]);
+    written_back();
     if (!notices()) wrong++;
     printf("%lu calls, %lu places compared, %lu wrong\n", calls, places, wrong);
     return wrong != 0;

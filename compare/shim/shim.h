@@ -45,6 +45,12 @@ uint8_t huszmago_step(size_t counts[2], double numbers[6], double temps[LAYERS],
                       uint8_t flags[HEATERS], double totals[4], double figures[3 * HEATERS], uint8_t line_flags[HEATERS], size_t rounds[HEATERS], double feed,
                       const size_t asked[2], const double volumes[EVENTS], const uint8_t present[2 * HEATERS], const double points[2 * HEATERS]);
 
+/* The same through the method `StorageTank::demand_hot_water`, by value: what it hands back is written in all ten arrays, refused or not. */
+uint8_t huszmago_demand_hot_water(size_t counts[2], double numbers[6], double temps[LAYERS], double heaters[3 * HEATERS], uint8_t thermostats[HEATERS],
+                                  uint8_t flags[HEATERS], double totals[4], double figures[3 * HEATERS], uint8_t line_flags[HEATERS], size_t rounds[HEATERS],
+                                  double feed, const size_t asked[2], const double volumes[EVENTS], const uint8_t present[2 * HEATERS],
+                                  const double points[2 * HEATERS]);
+
 /* Mixes n layers of one volume; any n. */
 uint8_t huszmago_mix(double *layers, size_t n, double layer_volume, size_t rounds[1]);
 
@@ -55,6 +61,11 @@ static inline uint8_t make(double initial, tank_arrays *t) {
 static inline uint8_t step(tank_arrays *t, report_arrays *r, const step_arrays *a) {
     return huszmago_step(t->counts, t->numbers, t->temps, t->heaters, t->thermostats, t->flags, r->totals, r->figures, r->flags, r->rounds, a->feed, a->asked,
                          a->volumes, a->present, a->points);
+}
+
+static inline uint8_t demand_hot_water(tank_arrays *t, report_arrays *r, const step_arrays *a) {
+    return huszmago_demand_hot_water(t->counts, t->numbers, t->temps, t->heaters, t->thermostats, t->flags, r->totals, r->figures, r->flags, r->rounds, a->feed,
+                                     a->asked, a->volumes, a->present, a->points);
 }
 
 #endif

@@ -47,7 +47,7 @@ use Rattle.storage_tank.specs.Calls.{made, answers}
 
 -- one name that opens every definition
 unfoldable opened : Unit {0}
-unfolding I.ofInt I.ofBits I.add I.sub I.mul I.div I.neg I.lt I.le I.eq Compare.minOf2 Compare.maxOf2 Close.magnitude Close.infinite Close.within Close.close Close.narrowClose Close.wideClose Turns.turns Holds.holds Tabulate.tabulate Sum2.accumulate Sum2.accumulateAll Sum2.sum2 Whole.wholeBelow Whole.layerOf Round.joins Round.member Round.groupTemp Round.pair Round.oneRound Rearrange.isSorted Rearrange.rounds Rearrange.rearrange Layers.layerVolume Layers.layerVolumes Layers.noVolume Layers.allFinite Cold.cold Draw.givesAll Draw.share Draw.restAfter Draw.drawShare Draw.drawLayer Draw.drawLayers Draw.drawFeed Draw.extract Draw.volumeUsed Refill.takeShare Refill.takeFrom Refill.takeBelow Refill.fromFeed Refill.entersWarmer Refill.fillingOf Refill.refillLayer Refill.refillLayers Refill.refill Switch.hasUpper Switch.upperOf Switch.atOrUnderLower Switch.upperMissingOrReached Switch.switchOn Switch.switchOff Heat.offer Heat.heated Losses.clearlyAbove Losses.overUpper Losses.standbyCoefficient Losses.warmed Losses.countedTemp Losses.standingLoss Losses.loss Losses.losses Losses.limitedTemp Losses.tempsAfter Losses.chargedAfter Losses.surplusTerm Losses.surplus Losses.adjusted Supply.demand Supply.supply Turn.input Turn.heatAndMix Turn.adjustedInput Turn.afterMixing Turn.turn Fixed.placedHeaters Order.comesBefore Sorting.insert Sorting.insertionSort Order.workingOrder Checks.firstRefusal Checks.fairPoints Checks.makeRefusal Checks.stepRefusal Work.resume Work.andThen Work.endBy Event.eventMixing Event.eventOf Event.tempsAfterEvent Event.totalsAfterEvent Event.eventFinite Event.eventNumber Turn.turnFinite Turn.turnNumber Work.afterEvent Work.event Work.events Work.averageOf Work.withAverage Work.turnOf Work.afterTurn Work.heaterTurn Work.turns Work.opening Work.recoverable Work.closed Work.begin Work.work History.carried History.workOf History.run History.history Calls.fittedHeaters Calls.madeOf Calls.made Calls.answer Calls.stepped Calls.answered Calls.answers
+unfolding I.ofInt I.ofBits I.add I.sub I.mul I.div I.neg I.lt I.le I.eq Compare.minOf2 Compare.maxOf2 Close.magnitude Close.infinite Close.within Close.close Close.narrowClose Close.wideClose Turns.turns Holds.holds Tabulate.tabulate Sum2.accumulate Sum2.accumulateAll Sum2.sum2 Whole.wholeBelow Whole.layerOf Round.joins Round.member Round.groupTemp Round.pair Round.oneRound Rearrange.isSorted Rearrange.rounds Rearrange.rearrange Layers.layerVolume Layers.layerVolumes Layers.noVolume Layers.allFinite Cold.cold Draw.givesAll Draw.share Draw.restAfter Draw.drawShare Draw.drawLayer Draw.drawLayers Draw.drawFeed Draw.extract Draw.volumeUsed Refill.takeShare Refill.takeFrom Refill.takeBelow Refill.fromFeed Refill.entersWarmer Refill.fillingOf Refill.refillLayer Refill.refillLayers Refill.refill Switch.hasUpper Switch.upperOf Switch.atOrUnderLower Switch.upperMissingOrReached Switch.switchOn Switch.switchOff Heat.offer Heat.heated Losses.clearlyAbove Losses.overUpper Losses.standbyCoefficient Losses.warmed Losses.countedTemp Losses.standingLoss Losses.loss Losses.lossAt Losses.losses Losses.limitedTemp Losses.tempsAfter Losses.chargedAfter Losses.surplusTerm Losses.surplus Losses.adjusted Supply.demand Supply.supply Turn.input Turn.heatAndMix Turn.adjustedInput Turn.afterMixing Turn.turn Fixed.placedHeaters Sorting.insert Sorting.insertionSort Sorting.risingOrder Order.workingOrder Checks.firstRefusal Checks.fairPoints Checks.makeRefusal Checks.stepRefusal Work.resume Work.andThen Work.endBy Event.eventMixing Event.eventOf Event.tempsAfterEvent Event.totalsAfterEvent Event.eventFinite Event.eventNumber Turn.turnFinite Turn.turnNumber Work.afterEvent Work.event Work.events Work.averageOf Work.withAverage Work.turnOf Work.afterTurn Work.heaterTurn Work.turns Work.opening Work.recoverable Work.closed Work.begin Work.work History.carried History.workOf History.run History.history Calls.fittedHeaters Calls.madeOf Calls.made Calls.answer Calls.stepped Calls.answered Calls.answers
 opened = tt
 
 -- ---- tanks, steps, and what is seen of an answer

@@ -15,7 +15,7 @@ use Rattle.heating.specs.declared.SetPoints.{SetPoints}
 use Rattle.heating.specs.declared.turn.Immersion.{Immersion}
 use Rattle.heating.specs.Switch.{switchOn}
 use Rattle.heating.specs.Heat.{heated}
-use Rattle.heating.specs.Losses.{loss, limitedTemp, tempsAfter, chargedAfter}
+use Rattle.heating.specs.Losses.{limitedTemp, warmed, lossAt, tempsAfter, chargedAfter}
 use Rattle.heating.specs.Turn.{offers, heatAndMix, afterMixing, turn}
 
 pub heated-keeps : (c : Cylinder) (vol : List Float) (given : ℕ → Float) (temps : List Float) → Keeps (c .layers) temps (heated c vol given temps)
@@ -26,11 +26,15 @@ heated-keeps c vol given temps =
 module _ (c : Cylinder) (vol : List Float) (p : SetPoints) (before mixed charged : List Float) where
   pub tempsAfter-keeps : Keeps (c .layers) mixed (tempsAfter c vol p before mixed charged)
   unfolding tempsAfter
-  tempsAfter-keeps = update-keeps (limitedTemp c vol p before mixed charged) (c .layers) mixed
+  tempsAfter-keeps =
+      update-keeps
+      (λ (k : ℕ) (t : Float). limitedTemp p (warmed c vol p before mixed charged k) t (lossAt c vol p before mixed charged k) (heatCapacity c vol k))
+      (c .layers)
+      mixed
 
   pub chargedAfter-keeps : Keeps (c .layers) charged (chargedAfter c vol p before mixed charged)
   unfolding chargedAfter
-  chargedAfter-keeps = update-keeps (λ (k : ℕ) (x : Float). x ⊕ loss c vol p before mixed charged k) (c .layers) charged
+  chargedAfter-keeps = update-keeps (λ (k : ℕ) (x : Float). x ⊕ lossAt c vol p before mixed charged k) (c .layers) charged
 
 module _ (c : Cylinder) (vol : List Float) (h : Immersion) (p : SetPoints) (temps charged : List Float) where
   -- what follows a mixing that kept what stands past the layers

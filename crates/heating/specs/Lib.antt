@@ -2,7 +2,6 @@
 pub mod Switch
 pub mod Heat
 pub mod Losses
-pub mod Layer
 pub mod Supply
 pub mod Turn
 pub mod SwitchLaws

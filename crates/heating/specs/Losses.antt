@@ -1,5 +1,5 @@
--- States `calc_temps_after_thermal_losses` (01, Losses and limit). `before` are the layers on which the heater's turn began, `mixed` those that its mixing
--- left, `charged` what earlier heaters charged each layer this step.
+-- States `calc_temps_after_thermal_losses` (01, Losses and limit): first one layer, by what stands at it alone; then all layers.
+-- `before` are the layers on which the heater's turn began, `mixed` those that its mixing left, `charged` what earlier heaters charged each this step.
 use Prim.Native.Nat.{ℕ, _-_}
 use mathlib.Core.Bool.{Bool, cond, not, _&&_}
 use mathlib.Core.List.{List}
@@ -15,6 +15,7 @@ use Rattle.numeric.specs.Sum2.{sum2}
 use Rattle.cylinder.specs.declared.Cylinder.{Cylinder}
 use Rattle.cylinder.specs.Layers.{heatCapacity}
 use Rattle.heating.specs.declared.SetPoints.{SetPoints}
+use Rattle.heating.specs.declared.losses.LayerAfter.{LayerAfter}
 use Rattle.heating.specs.Switch.{hasUpper, upperOf}
 
 -- t is above u and not wide-close to it
@@ -29,47 +30,62 @@ overUpper p t = hasUpper p && clearlyAbove t (upperOf p)
 unfoldable pub standbyCoefficient : Cylinder → Float
 standbyCoefficient c = whole 1000 ⊛ c .standby ⊘ (whole 24 ⊛ whole 45)
 
+-- ---- one layer: v is its volume, t its temperature after the mixing, `warm` whether it is warmed, `earlier` what earlier heaters charged it, `lost` its loss,
+-- `capacity` its density × specific heat × layer volume
+
+-- a warmed layer is counted at no more than the upper set point
+unfoldable pub countedTemp : SetPoints → Bool → Float → Float
+countedTemp p warm t = cond (hasUpper p && warm) (minOf2 t (upperOf p)) t
+
+-- (h × density × specific heat) × (layer volume / volume) × (temperature - ambient) × step length
+unfoldable pub standingLoss : Cylinder → Float → Float → Float
+standingLoss c v t = standbyCoefficient c ⊛ c .rho ⊛ c .cp ⊛ (v ⊘ c .volume) ⊛ (t ⊖ c .ambient) ⊛ c .timestep
+
+-- less what earlier heaters charged it, then `max_of_2` of 0 and that
+unfoldable pub loss : Cylinder → Float → SetPoints → Bool → Float → Float → Float
+loss c v p warm t earlier = maxOf2 zero-f (standingLoss c v (countedTemp p warm t) ⊖ earlier)
+
+-- a warmed layer over the upper set point ends exactly there; any other drops by loss / (density × specific heat × layer volume)
+unfoldable pub limitedTemp : SetPoints → Bool → Float → Float → Float → Float
+limitedTemp p warm t lost capacity = cond (warm && overUpper p t) (upperOf p) (t ⊖ lost ⊘ capacity)
+
+-- heat - loss - heat at the set point
+unfoldable pub surplusTerm : SetPoints → Float → Float → Float → Float
+surplusTerm p t lost capacity = capacity ⊛ t ⊖ lost ⊖ capacity ⊛ upperOf p
+
+-- what the code answers for the layer
+abbrev pub layerAfter : Cylinder → Float → SetPoints → Bool → Float → Float → LayerAfter
+layerAfter c v p warm t earlier =
+    let lost = loss c v p warm t earlier in record { lost = lost; temp = limitedTemp p warm t lost (c .rho ⊛ c .cp ⊛ v) }
+
+-- ---- all layers
+
 module _ (c : Cylinder) (vol : List Float) (p : SetPoints) (before mixed charged : List Float) where
-  -- a layer is warmed if it is above its temperature before heating and not wide-close to it
+  -- the layer k is warmed if it is above its temperature before heating and not wide-close to it
   unfoldable pub warmed : ℕ → Bool
   warmed k = clearlyAbove (getD mixed k nan) (getD before k nan)
 
-  -- a warmed layer is counted at no more than the upper set point
-  unfoldable pub countedTemp : ℕ → Float
-  countedTemp k = cond (hasUpper p && warmed k) (minOf2 (getD mixed k nan) (upperOf p)) (getD mixed k nan)
-
-  -- (h × density × specific heat) × (layer volume / volume) × (temperature - ambient) × step length
-  unfoldable pub standingLoss : ℕ → Float
-  standingLoss k =
-      standbyCoefficient c ⊛ c .rho ⊛ c .cp ⊛ (getD vol k nan ⊘ c .volume) ⊛ (countedTemp k ⊖ c .ambient) ⊛ c .timestep
-
-  -- less what earlier heaters charged it, then `max_of_2` of 0 and that
-  unfoldable pub loss : ℕ → Float
-  loss k = maxOf2 zero-f (standingLoss k ⊖ getD charged k nan)
+  unfoldable pub lossAt : ℕ → Float
+  lossAt k = loss c (getD vol k nan) p (warmed k) (getD mixed k nan) (getD charged k nan)
 
   -- the heater's losses, over all layers
   unfoldable pub losses : Float
-  losses = sum2 (tabulate loss (c .layers) 0)
-
-  -- a warmed layer over the upper set point ends exactly there; any other drops by loss / (density × specific heat × layer volume)
-  unfoldable pub limitedTemp : ℕ → Float → Float
-  limitedTemp k t = cond (warmed k && overUpper p t) (upperOf p) (t ⊖ loss k ⊘ heatCapacity c vol k)
+  losses = sum2 (tabulate lossAt (c .layers) 0)
 
   unfoldable pub tempsAfter : List Float
-  tempsAfter = updateFirst limitedTemp (c .layers) mixed
+  tempsAfter = updateFirst (λ (k : ℕ) (t : Float). limitedTemp p (warmed k) t (lossAt k) (heatCapacity c vol k)) (c .layers) mixed
 
   unfoldable pub chargedAfter : List Float
-  chargedAfter = updateFirst (λ (k : ℕ) (x : Float). x ⊕ loss k) (c .layers) charged
+  chargedAfter = updateFirst (λ (k : ℕ) (x : Float). x ⊕ lossAt k) (c .layers) charged
 
-  -- heat - loss - heat at the set point
-  unfoldable pub surplusTerm : ℕ → Float
-  surplusTerm k = heatCapacity c vol k ⊛ getD mixed k nan ⊖ loss k ⊖ heatCapacity c vol k ⊛ upperOf p
+  abbrev pub surplusAt : ℕ → Float
+  surplusAt k = surplusTerm p (getD mixed k nan) (lossAt k) (heatCapacity c vol k)
 
   -- added plainly from the heater's layer up, if that layer is over the upper set point; else 0
   unfoldable pub surplus : ℕ → Float
   surplus layer =
       cond (overUpper p (getD mixed layer nan))
-      (turns (λ (k : ℕ) (s : Float). s ⊕ surplusTerm k) (c .layers - layer) layer zero-f)
+      (turns (λ (k : ℕ) (s : Float). s ⊕ surplusAt k) (c .layers - layer) layer zero-f)
       zero-f
 
 -- adjusted: `max_of_2` of 0 and `min_of_2` of input - surplus and input, or 0 if input is not above zero

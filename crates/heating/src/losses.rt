@@ -1,16 +1,13 @@
 // `calc_temps_after_thermal_losses`. `before` are the layers on which the heater's turn began, `mixed` those that its mixing left, `charged` what
 // earlier heaters charged each layer this step.
 ghost use mathlib.Core.Path.{_≡_};
-ghost use mathlib.Core.Bool.{cond, _&&_};
 ghost use Prim.Native.Nat.{ℕ, _-_, _≤_, _<_};
 ghost use lib.Ieee.{Float};
 ghost use Rattle.numeric.specs.Turns.{turns};
-ghost use Rattle.numeric.specs.Double.{_⊕_, _⊖_, _⊛_, _⊘_, zero-f};
-ghost use Rattle.numeric.specs.Compare.{minOf2};
+ghost use Rattle.numeric.specs.Double.{_⊕_, _⊛_, zero-f};
 ghost use Rattle.mixing.specs.Limits.{maxLayers};
-ghost use Rattle.heating.specs.Switch.{hasUpper, upperOf};
-ghost use Rattle.heating.specs.Losses.{clearlyAbove, overUpper, standbyCoefficient, losses, tempsAfter, chargedAfter, surplusTerm, surplus, adjusted};
-ghost use Rattle.heating.specs.Layer.{layerLoss, layerAfter, layerSurplus};
+ghost use Rattle.heating.specs.Losses.{clearlyAbove, overUpper, standbyCoefficient, countedTemp, standingLoss, loss};
+ghost use Rattle.heating.specs.Losses.{limitedTemp, surplusTerm, layerAfter, losses, tempsAfter, chargedAfter, surplusAt, surplus, adjusted};
 use crate::SetPoints;
 use cylinder::Cylinder;
 use mixing::limits::MAX_LAYERS;
@@ -43,7 +40,7 @@ fn stand_by_losses_coefficient(c: Cylinder) -> f64
 
 // A warmed layer is counted at no more than the upper set point.
 fn counted_temp(p: SetPoints, warmed: bool, t: f64) -> f64
-    ensures { λ r. ⌜ r ≡ cond (hasUpper p && warmed) (minOf2 t (upperOf p)) t ⌝ }
+    ensures { λ r. ⌜ r ≡ countedTemp p warmed t ⌝ }
 {
     if crate::switch::has_upper(p) {
         if warmed {
@@ -56,14 +53,14 @@ fn counted_temp(p: SetPoints, warmed: bool, t: f64) -> f64
 
 // What a layer of volume v at t loses in the step.
 fn standing_loss(c: Cylinder, v: f64, t: f64) -> f64
-    ensures { λ r. ⌜ r ≡ standbyCoefficient c ⊛ c .rho ⊛ c .cp ⊛ (v ⊘ c .volume) ⊛ (t ⊖ c .ambient) ⊛ c .timestep ⌝ }
+    ensures { λ r. ⌜ r ≡ standingLoss c v t ⌝ }
 {
     (stand_by_losses_coefficient(c) * c.rho * c.cp) * (v / c.volume) * (t - c.ambient) * c.timestep
 }
 
 // The loss of a layer of volume v at t, less what earlier heaters charged it.
 fn thermal_loss(c: Cylinder, v: f64, p: SetPoints, warmed: bool, t: f64, earlier: f64) -> f64
-    ensures { λ r. ⌜ r ≡ layerLoss c p v warmed t earlier ⌝ }
+    ensures { λ r. ⌜ r ≡ loss c v p warmed t earlier ⌝ }
 {
     let standing = standing_loss(c, v, counted_temp(p, warmed, t));
     numeric::compare::max_of_2(0.0, standing - earlier)
@@ -71,7 +68,7 @@ fn thermal_loss(c: Cylinder, v: f64, p: SetPoints, warmed: bool, t: f64, earlier
 
 // A warmed layer over the upper set point ends exactly there; any other drops by its loss. `capacity` is the heat of one degree.
 fn limited_temp(p: SetPoints, warmed: bool, t: f64, lost: f64, capacity: f64) -> f64
-    ensures { λ r. ⌜ r ≡ cond (warmed && overUpper p t) (upperOf p) (t ⊖ lost ⊘ capacity) ⌝ }
+    ensures { λ r. ⌜ r ≡ limitedTemp p warmed t lost capacity ⌝ }
 {
     if warmed {
         if is_over_upper(p, t) {
@@ -89,7 +86,7 @@ struct LayerAfter {
 }
 
 fn after_loss(c: Cylinder, v: f64, p: SetPoints, warmed: bool, t: f64, earlier: f64) -> LayerAfter
-    ensures { λ r. ⌜ r ≡ layerAfter c p v warmed t earlier ⌝ }
+    ensures { λ r. ⌜ r ≡ layerAfter c v p warmed t earlier ⌝ }
 {
     let lost = thermal_loss(c, v, p, warmed, t, earlier);
     let temp = limited_temp(p, warmed, t, lost, c.rho * c.cp * v);
@@ -98,7 +95,7 @@ fn after_loss(c: Cylinder, v: f64, p: SetPoints, warmed: bool, t: f64, earlier: 
 
 // The same of a layer that was at `before` when the turn began. Whether it is warmed is asked once, and most layers are not.
 fn layer_after(c: Cylinder, v: f64, p: SetPoints, before: f64, t: f64, earlier: f64) -> LayerAfter
-    ensures { λ r. ⌜ r ≡ layerAfter c p v (clearlyAbove t before) t earlier ⌝ }
+    ensures { λ r. ⌜ r ≡ layerAfter c v p (clearlyAbove t before) t earlier ⌝ }
 {
     if is_clearly_above(t, before) {
         return after_loss(c, v, p, true, t, earlier);
@@ -108,7 +105,7 @@ fn layer_after(c: Cylinder, v: f64, p: SetPoints, before: f64, t: f64, earlier: 
 
 // Of a layer that was at `before` when the turn began: its heat less its loss less its heat at the set point.
 fn layer_surplus(c: Cylinder, v: f64, p: SetPoints, before: f64, t: f64, earlier: f64) -> f64
-    ensures { λ r. ⌜ r ≡ layerSurplus c p v (clearlyAbove t before) t earlier ⌝ }
+    ensures { λ r. ⌜ r ≡ surplusTerm p t (loss c v p (clearlyAbove t before) t earlier) (c .rho ⊛ c .cp ⊛ v) ⌝ }
 {
     let warmed = is_clearly_above(t, before);
     let lost = thermal_loss(c, v, p, warmed, t, earlier);
@@ -126,7 +123,7 @@ fn sum_surplus(
     layer: usize,
 ) -> f64
     requires { ⌜ (layer < c .layers) × (c .layers ≤ maxLayers) ⌝ }
-    ensures { λ r. ⌜ r ≡ turns (λ (k : ℕ) (s : Float). s ⊕ surplusTerm c (now (vol .entry)) p (now (before .entry)) (now (mixed .entry)) (now (charged .entry)) k) (c .layers - layer) layer zero-f ⌝ }
+    ensures { λ r. ⌜ r ≡ turns (λ (k : ℕ) (s : Float). s ⊕ surplusAt c (now (vol .entry)) p (now (before .entry)) (now (mixed .entry)) (now (charged .entry)) k) (c .layers - layer) layer zero-f ⌝ }
 {
     let n = c.layers;
     let mut s = 0.0;

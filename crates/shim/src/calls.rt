@@ -4,7 +4,7 @@ ghost use mathlib.Core.List.{[], _∷_};
 ghost use Rattle.mixing.specs.Mix.{mixNumber, mixRounds, mixLayers, numberOf, roundsOf};
 ghost use Rattle.storage_tank.specs.Calls.{made, stepped};
 ghost use Rattle.shim.specs.Tanks.{designIn, tankIn, TankWritten};
-ghost use Rattle.shim.specs.Reports.{reportIn};
+ghost use Rattle.shim.specs.Reports.{reportIn, ReportWritten};
 ghost use Rattle.shim.specs.Steps.{stepIn};
 ghost use Rattle.shim.specs.Answers.{MakeAnswered, StepAnswered};
 use cylinder::Cylinder;
@@ -12,6 +12,7 @@ use draw_off::event::MAX_EVENTS;
 use mixing::MixAnswer;
 use mixing::limits::MAX_LAYERS;
 use step_work::work::WorkAnswer;
+use storage_tank::Report;
 use storage_tank::StorageTank;
 use tank_arrays::arrays::THREE_EACH;
 use working_order::MAX_HEATERS;
@@ -79,6 +80,26 @@ fn put_tank(
     *thermostats = b;
     let f = t.flags;
     *flags = f;
+}
+
+fn put_report(
+    r: Report,
+    totals: &mut [f64; 4],
+    figures: &mut [f64; 24],
+    flags: &mut [bool; MAX_HEATERS],
+    rounds: &mut [usize; MAX_HEATERS],
+)
+    ensures { λ u. ⌜ ReportWritten r (now (totals .exit)) (now (figures .exit)) (now (flags .exit)) (now (rounds .exit)) ⌝ }
+{
+    let t = crate::reports::totals_of(r);
+    *totals = t;
+    let lines = r.lines;
+    let x = crate::reports::figures_of(lines);
+    *figures = x;
+    let f = crate::reports::line_flags_of(lines);
+    *flags = f;
+    let n = crate::reports::rounds_of(lines);
+    *rounds = n;
 }
 
 // Energy withdrawn, volume used, average draw-off temperature, recoverable losses.
@@ -184,4 +205,48 @@ pub extern "C" fn huszmago_step(
     *line_flags = g;
     *rounds = k;
     0
+}
+
+// The same through the method: a tank, a report and a step are made of what is lent and passed by value, and what the call hands back is written in all ten arrays,
+// refused or not.
+#[no_mangle]
+pub extern "C" fn huszmago_demand_hot_water(
+    counts: &mut [usize; 2],
+    numbers: &mut [f64; 6],
+    temps: &mut [f64; MAX_LAYERS],
+    heaters: &mut [f64; 24],
+    thermostats: &mut [bool; MAX_HEATERS],
+    flags: &mut [bool; MAX_HEATERS],
+    totals: &mut [f64; 4],
+    figures: &mut [f64; 24],
+    line_flags: &mut [bool; MAX_HEATERS],
+    rounds: &mut [usize; MAX_HEATERS],
+    feed: f64,
+    asked: &[usize; 2],
+    volumes: &[f64; MAX_EVENTS],
+    present: &[bool; 16],
+    points: &[f64; 16],
+) -> u8
+    ensures { λ r. ⌜ StepAnswered (stepped (tankIn (now (counts .entry)) (now (numbers .entry)) (now (temps .entry)) (now (heaters .entry)) (now (thermostats .entry)) (now (flags .entry))) (reportIn (now (totals .entry)) (now (figures .entry)) (now («line_flags» .entry)) (now (rounds .entry))) (stepIn feed (now (asked .entry)) (now (volumes .entry)) (now (present .entry)) (now (points .entry)))) r (now (counts .exit)) (now (numbers .exit)) (now (temps .exit)) (now (heaters .exit)) (now (thermostats .exit)) (now (flags .exit)) (now (totals .exit)) (now (figures .exit)) (now («line_flags» .exit)) (now (rounds .exit)) ⌝ }
+{
+    let c = *counts;
+    let n = *numbers;
+    let layers = *temps;
+    let h = *heaters;
+    let b = *thermostats;
+    let f = *flags;
+    let t = crate::tanks::tank_in(c, n, layers, h, b, f);
+    let four = *totals;
+    let x = *figures;
+    let g = *line_flags;
+    let k = *rounds;
+    let r = crate::reports::report_in(four, x, g, k);
+    let e = *asked;
+    let v = *volumes;
+    let s = t.demand_hot_water(r, crate::steps::step_in(feed, e, v, present, points));
+    let tank = s.tank;
+    put_tank(tank, counts, numbers, temps, heaters, thermostats, flags);
+    let report = s.report;
+    put_report(report, totals, figures, line_flags, rounds);
+    s.number
 }

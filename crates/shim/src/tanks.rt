@@ -3,7 +3,8 @@ ghost use mathlib.Core.Path.{_≡_};
 ghost use Prim.Native.Nat.{_<_};
 ghost use Rattle.working_order.specs.Order.{maxHeaters};
 ghost use Rattle.tank_arrays.specs.Arrays.{heaterIn, fittedIn};
-ghost use Rattle.shim.specs.Tanks.{designIn, countsOf, numbersOf};
+ghost use Rattle.shim.specs.Tanks.{tankIn, designIn, countsOf, numbersOf};
+use mixing::limits::MAX_LAYERS;
 use storage_tank::StorageTank;
 use tank_model::Heater;
 use tank_model::TankDesign;
@@ -35,6 +36,32 @@ fn fitted_in(xs: [f64; 24], bs: [bool; MAX_HEATERS]) -> [Heater; MAX_HEATERS]
         heater_in(xs, bs, 6),
         heater_in(xs, bs, 7),
     ]
+}
+
+pub fn tank_in(
+    counts: [usize; 2],
+    numbers: [f64; 6],
+    temps: [f64; MAX_LAYERS],
+    heaters: [f64; 24],
+    thermostats: [bool; MAX_HEATERS],
+    flags: [bool; MAX_HEATERS],
+) -> StorageTank
+    ensures { λ r. ⌜ r ≡ tankIn counts numbers temps heaters thermostats flags ⌝ }
+{
+    let fitted = fitted_in(heaters, thermostats);
+    StorageTank {
+        layers: counts[0],
+        volume: numbers[0],
+        standby: numbers[1],
+        rho: numbers[2],
+        cp: numbers[3],
+        ambient: numbers[4],
+        timestep: numbers[5],
+        temps,
+        heaters: counts[1],
+        fitted,
+        flags,
+    }
 }
 
 pub fn design_in(

@@ -15,15 +15,15 @@ use Rattle.cylinder.specs.Layers.{layerVolumes}
 use Rattle.draw_off.specs.declared.Totals.{Totals}
 use Rattle.draw_off.specs.Event.{Event}
 use Rattle.heating.specs.Turn.{Turned, turn, turnNumber}
-use Rattle.working_order.specs.Order.{maxHeaters, notAbove, risingOrder}
+use Rattle.working_order.specs.Order.{maxHeaters, risingOrder}
 use Rattle.working_order.proofs.Same.{rising-same}
 use Rattle.tank_model.specs.declared.Heater.{Heater}
 use Rattle.tank_model.specs.declared.Setting.{Setting}
-use Rattle.tank_model.specs.Fixed.{Placed, Fixed, noHeater, placedHeaters, heaterOf}
-use Rattle.tank_model.specs.Order.{comesBefore, workingOrder}
+use Rattle.tank_model.specs.Fixed.{Placed, Fixed, noHeater, placedHeaters}
+use Rattle.tank_model.specs.Order.{positions, workingOrder}
 use Rattle.tank_model.specs.Checks.{noSetting}
 use Rattle.tank_model.specs.Work.{Progress, Turn, End, refused, done, Work, resume, andThen, endBy, turnOf, afterTurn, heaterTurn, turns}
-use Rattle.tank_model.proofs.Order.{many-placed, placed-at}
+use Rattle.tank_model.proofs.Order.{many-placed, placed-at, position-at}
 use Rattle.step_work.specs.Lent.{Heated, immersion, settingsOnly, afterHeat, TurnWorked, progressOf}
 
 -- ---- what follows an end by a number
@@ -131,16 +131,16 @@ module _ (c : Cylinder) (n : ℕ) (fitted : List Heater) (settings : List Settin
 
 pub order-is : (c : Cylinder) (n : ℕ) (fitted : List Heater) → n < suc maxHeaters → workingOrder (record { cylinder = c; heaters = placedHeaters n fitted }) ≡ risingOrder (tabulate (λ (h : ℕ). getD fitted h noHeater .position) maxHeaters 0) n
 unfolding workingOrder
-order-is c n fitted l = rw (many-placed n fitted) (rising-same positions n (λ i j. comesBefore (heaterOf f i) (heaterOf f j)) same)
+order-is c n fitted l = rw (many-placed n fitted) (rising-same (positions f) lent n same)
   where
     f : Fixed
     f = record { cylinder = c; heaters = placedHeaters n fitted }
 
-    positions : List Float
-    positions = tabulate (λ (h : ℕ). getD fitted h noHeater .position) maxHeaters 0
+    lent : List Float
+    lent = tabulate (λ (h : ℕ). getD fitted h noHeater .position) maxHeaters 0
 
-    at : (h : ℕ) → h < n → getD positions h nan ≡ heaterOf f h .position
-    at h k = at-tabulate (λ (j : ℕ). getD fitted j noHeater .position) maxHeaters h nan (omega arith) ∙ sym (ap (λ (y : Placed). y .position) (placed-at n fitted h k))
-
-    same : (i j : ℕ) → i < n → j < n → comesBefore (heaterOf f i) (heaterOf f j) ≡ notAbove positions i j
-    same i j k q = unfold comesBefore in (rw (at i k, at j q))
+    same : (h : ℕ) → h < n → getD (positions f) h nan ≡ getD lent h nan
+    same h k =
+        position-at f h
+        ∙ ap (λ (y : Placed). y .position) (placed-at n fitted h k)
+        ∙ sym (at-tabulate (λ (j : ℕ). getD fitted j noHeater .position) maxHeaters h nan (omega arith))

@@ -1,19 +1,19 @@
 -- Proves that the order of work has each heater once and nothing else, each worked before the next (01, Tank).
-use mathlib.Core.Path.{_≡_, sym, subst}
+use mathlib.Core.Path.{_≡_, refl, sym, subst}
 use mathlib.Core.Logic.{_⊎_, inl, inr, _≢_}
-use mathlib.Core.List.{List, [], _∷_}
+use mathlib.Core.List.{List, [], _∷_, map}
 use mathlib.Core.Bool.{Bool, true, false, not, cond}
 use Prim.Native.Nat.{ℕ, zero, suc, _+_, _<_, _≤_}
 use native.Mathlib.Omega.{arith}
 use lib.Dec.{T}
 use lib.ListN.{length, getD}
-use lib.Ieee.{le}
+use lib.Ieee.{nan, le}
 use Rattle.numeric.specs.Tabulate.{tabulate, length-tabulate, at-tabulate}
-use Rattle.working_order.specs.Order.{indices, insert, insertionSort}
+use Rattle.working_order.specs.Order.{indices, insert, insertionSort, notAbove, risingOrder}
 use Rattle.tank_model.specs.declared.Heater.{Heater}
 use Rattle.tank_model.specs.declared.TankDesign.{TankDesign}
-use Rattle.tank_model.specs.Fixed.{Fixed, placed, noHeater, notPlaced, placedHeaters, heaterOf, fixedOf}
-use Rattle.tank_model.specs.Order.{comesBefore, workingOrder}
+use Rattle.tank_model.specs.Fixed.{Placed, Fixed, placed, noHeater, notPlaced, placedHeaters, heaterOf, fixedOf}
+use Rattle.tank_model.specs.Order.{positions, workingOrder}
 use Rattle.tank_model.specs.Members.{All, Distinct, ChainFrom, Chain}
 use Rattle.tank_model.specs.Arguments.{positionOf, WorkedBefore, InWorkingOrder}
 use Rattle.tank_model.proofs.Members.{by-cond, In, numbers-above, numbers-distinct, indices-below, in-indices}
@@ -119,16 +119,24 @@ heaters-many m = many-placed (m .heaters) (m .fitted)
 
 -- ---- the order of work
 
+pub position-at : (f : Fixed) (h : ℕ) → getD (positions f) h nan ≡ heaterOf f h .position
+position-at f h = go (f .heaters) h
+  where
+    go : (xs : List Placed) (h : ℕ) → getD (map (λ (x : Placed). x .position) xs) h nan ≡ getD xs h notPlaced .position
+    go [] h = refl
+    go (x ∷ xs) zero = refl
+    go (x ∷ xs) (suc h) = go xs h
+
 pub order-below : (f : Fixed) → All (λ (h : ℕ). h < length (f .heaters)) (workingOrder f)
-unfolding workingOrder
-order-below f = sort-all (λ i j. comesBefore (heaterOf f i) (heaterOf f j)) (λ (h : ℕ). h < length (f .heaters)) (indices (length (f .heaters))) (indices-below (length (f .heaters)) (length (f .heaters)) (omega arith))
+unfolding workingOrder risingOrder
+order-below f = sort-all (notAbove (positions f)) (λ (h : ℕ). h < length (f .heaters)) (indices (length (f .heaters))) (indices-below (length (f .heaters)) (length (f .heaters)) (omega arith))
 
 pub order-once : (f : Fixed) → Distinct (workingOrder f)
-unfolding workingOrder
-order-once f = sorted-once (λ i j. comesBefore (heaterOf f i) (heaterOf f j)) (length (f .heaters))
+unfolding workingOrder risingOrder
+order-once f = sorted-once (notAbove (positions f)) (length (f .heaters))
 
 pub in-working-order : (m : TankDesign) → InWorkingOrder m (workingOrder (fixedOf m))
-unfolding workingOrder
+unfolding workingOrder risingOrder
 in-working-order m = rw (heaters-many m) (record {
   each = λ h l. sorted-each before (m .heaters) h l;
   only = only;
@@ -137,14 +145,14 @@ in-working-order m = rw (heaters-many m) (record {
 })
   where
     before : ℕ → ℕ → Bool
-    before i j = comesBefore (heaterOf (fixedOf m) i) (heaterOf (fixedOf m) j)
+    before = notAbove (positions (fixedOf m))
 
     only : All (λ (h : ℕ). h < m .heaters) (insertionSort before (indices (m .heaters)))
     only = sort-all before (λ (h : ℕ). h < m .heaters) (indices (m .heaters)) (indices-below (m .heaters) (m .heaters) (omega arith))
 
-    positions : (x y : ℕ) → x < m .heaters → y < m .heaters → before x y ≡ le (positionOf m x) (positionOf m y)
-    positions x y k l = unfold comesBefore in (rw (heater-is m x k, heater-is m y l))
+    compared : (x y : ℕ) → x < m .heaters → y < m .heaters → before x y ≡ le (positionOf m x) (positionOf m y)
+    compared x y k l = rw (position-at (fixedOf m) x, position-at (fixedOf m) y, heater-is m x k, heater-is m y l)
 
     said : (x y : ℕ) → x < m .heaters → y < m .heaters → Ahead before x y → WorkedBefore m x y
-    said x y k l (inl p) = inl (p .0, subst T (positions x y k l) (p .1))
-    said x y k l (inr p) = inr (p .0, subst (λ (b : Bool). T (not b)) (positions y x l k) (p .1))
+    said x y k l (inl p) = inl (p .0, subst T (compared x y k l) (p .1))
+    said x y k l (inr p) = inr (p .0, subst (λ (b : Bool). T (not b)) (compared y x l k) (p .1))

@@ -1,15 +1,13 @@
--- States the order in which a step works its heaters (01, Tank): rising position, ties in the given order.
+-- States the order in which a step works its heaters (01, Tank): the rising order of their positions.
 use Prim.Native.Nat.{ℕ}
-use mathlib.Core.Bool.{Bool}
-use mathlib.Core.List.{List}
+use mathlib.Core.List.{List, map}
 use lib.ListN.{length}
-use lib.Ieee.{le}
-use Rattle.working_order.specs.Order.{indices, insertionSort}
-use Rattle.tank_model.specs.Fixed.{Fixed, Placed, heaterOf}
+use lib.Ieee.{Float}
+use Rattle.working_order.specs.Order.{risingOrder}
+use Rattle.tank_model.specs.Fixed.{Fixed, Placed}
 
--- the heater x, given before y, is worked before it: y's position is not lower
-unfoldable pub comesBefore : Placed → Placed → Bool
-comesBefore x y = le (x .position) (y .position)
+abbrev pub positions : Fixed → List Float
+positions f = map (λ (x : Placed). x .position) (f .heaters)
 
 unfoldable pub workingOrder : Fixed → List ℕ
-workingOrder f = insertionSort (λ i j. comesBefore (heaterOf f i) (heaterOf f j)) (indices (length (f .heaters)))
+workingOrder f = risingOrder (positions f) (length (f .heaters))

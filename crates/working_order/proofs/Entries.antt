@@ -1,14 +1,14 @@
 -- Proves how many entries a working order has, and that each is the number of a heater (01, Tank).
 use mathlib.Core.Path.{_≡_, refl, ap, sym, _∙_}
 use mathlib.Core.Bool.{Bool, true, false, cond}
-use mathlib.Core.List.{List, [], _∷_}
-use Prim.Native.Nat.{ℕ, zero, suc, _+_, _≤_, _<_}
+use mathlib.Core.List.{List, [], _∷_, _++_}
+use Prim.Native.Nat.{ℕ, zero, suc, _+_, _-_, _≤_, _<_}
 use native.Mathlib.Omega.{arith}
-use lib.ListN.{length, getD, take}
-use lib.Seq.{getD-take}
+use lib.ListN.{length, getD, take, replicate}
+use lib.Seq.{take-at, getD-take}
 use lib.Ieee.{Float}
 use Rattle.numeric.specs.Tabulate.{tabulate, length-tabulate}
-use Rattle.working_order.specs.Order.{indices, insert, insertionSort, notAbove, risingOrder}
+use Rattle.working_order.specs.Order.{maxHeaters, indices, insert, insertionSort, notAbove, risingOrder}
 
 -- each entry is below n
 pub data Below (n : ℕ) : List ℕ → Type 0 where
@@ -29,7 +29,7 @@ chosen-below n x y ys inserted true h all rest = more h all
 chosen-below n x y ys inserted false h all rest = rest
 
 module _ (before : ℕ → ℕ → Bool) where
-  insert-length : (x : ℕ) (ys : List ℕ) → length (insert before x ys) ≡ suc (length ys)
+  pub insert-length : (x : ℕ) (ys : List ℕ) → length (insert before x ys) ≡ suc (length ys)
   unfolding insert
   insert-length x [] = refl
   insert-length x (y ∷ ys) = chosen-length x y ys (insert before x ys) (before x y) (insert-length x ys)
@@ -66,8 +66,11 @@ rising-below positions n k h =
     let e = rising-length positions n in
     below-at n (insertionSort (notAbove positions) (indices n)) (sort-below (notAbove positions) n (indices n) (indices-below n n 0 (omega arith))) k (omega arith)
 
--- and so in an array whose first n places hold it
-pub entry : (positions : List Float) (n : ℕ) (order : List ℕ) → take n order ≡ risingOrder positions n → (k : ℕ) → k < n → (getD order k 0 ≡ getD (risingOrder positions n) k 0) × (getD order k 0 < n)
-entry positions n order e k h =
-    let same : getD order k 0 ≡ getD (risingOrder positions n) k 0 = sym (getD-take n order k 0 h) ∙ ap (λ (xs : List ℕ). getD xs k 0) e in
-    (same, rw same (rising-below positions n k h))
+-- ---- an array that holds it, with zeros past it
+
+module _ (positions : List Float) (n : ℕ) (order : List ℕ) (held : order ≡ risingOrder positions n ++ replicate (maxHeaters - n) 0) where
+  pub first-entries : take n order ≡ risingOrder positions n
+  first-entries = rw held (take-at (risingOrder positions n) (replicate (maxHeaters - n) 0) n (rising-length positions n))
+
+  pub entry : (k : ℕ) → k < n → getD order k 0 < n
+  entry k h = rw (← first-entries, getD-take n order k 0 h) at (rising-below positions n k h)

@@ -1,10 +1,11 @@
--- Proves that a working order depends only on how the heaters that there are compare (01, Tank): what stands past them does not bear on it.
+-- Proves that a working order depends only on the positions of the heaters that there are (01, Tank): what stands past them does not bear on it.
 use mathlib.Core.Path.{_≡_, refl, ap, _∙_}
 use mathlib.Core.Bool.{Bool}
 use mathlib.Core.List.{List, [], _∷_}
 use Prim.Native.Nat.{ℕ, _<_}
 use native.Mathlib.Omega.{arith}
-use lib.Ieee.{Float}
+use lib.ListN.{getD}
+use lib.Ieee.{Float, nan}
 use Rattle.working_order.specs.Order.{indices, insert, insertionSort, notAbove, risingOrder}
 use Rattle.working_order.proofs.Entries.{Below, none, more, sort-below, indices-below}
 
@@ -20,7 +21,8 @@ module _ (n : ℕ) (before other : ℕ → ℕ → Bool) (same : (i j : ℕ) →
   sort-same (x ∷ xs) (more l b) =
       insert-same x (insertionSort before xs) l (sort-below before n xs b) ∙ ap (insert other x) (sort-same xs b)
 
--- the law: a test that agrees with the positions below n sorts as they do
-pub rising-same : (positions : List Float) (n : ℕ) (before : ℕ → ℕ → Bool) → ((i j : ℕ) → i < n → j < n → before i j ≡ notAbove positions i j) → insertionSort before (indices n) ≡ risingOrder positions n
+-- the law: where the positions below n are the same, so is the order
+pub rising-same : (positions others : List Float) (n : ℕ) → ((i : ℕ) → i < n → getD positions i nan ≡ getD others i nan) → risingOrder positions n ≡ risingOrder others n
 unfolding risingOrder
-rising-same positions n before same = sort-same n before (notAbove positions) same (indices n) (indices-below n n 0 (omega arith))
+rising-same positions others n same =
+    sort-same n (notAbove positions) (notAbove others) (λ i j h k. rw (same i h, same j k)) (indices n) (indices-below n n 0 (omega arith))

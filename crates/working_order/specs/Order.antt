@@ -1,4 +1,4 @@
--- States the order in which a step works its heaters (01, Tank): rising position, ties in the given order.
+-- States the rising order of positions, ties in the given order (01, Tank): an insertion sort of the numbers of those that have them.
 use Prim.Native.Nat.{ℕ}
 use mathlib.Core.Bool.{Bool, cond}
 use mathlib.Core.List.{List, [], _∷_}

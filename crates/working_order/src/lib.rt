@@ -1,7 +1,8 @@
 // The order in which a step works its heaters: rising position, ties in the given order. An insertion sort of their numbers, from the last heater to the first.
 ghost use mathlib.Core.Path.{_≡_};
-ghost use Prim.Native.Nat.{ℕ, _+_, _≤_, _<_};
-ghost use lib.ListN.{getD, length, take};
+ghost use mathlib.Core.List.{_++_};
+ghost use Prim.Native.Nat.{ℕ, _+_, _-_, _≤_, _<_};
+ghost use lib.ListN.{getD, length, take, drop, replicate};
 ghost use lib.Seq.{slice};
 ghost use Rattle.working_order.specs.Order.{maxHeaters, insert, notAbove, risingOrder};
 
@@ -23,7 +24,7 @@ fn insert_heater(
     order: &mut [usize; MAX_HEATERS],
 )
     requires { ⌜ (x < n) × (n ≤ maxHeaters) × (length (now order) ≡ maxHeaters) × ((k : ℕ) → x + 1 ≤ k → k < n → getD (now order) k 0 < n) ⌝ }
-    ensures { λ r. ⌜ (length (now (order .exit)) ≡ maxHeaters) × (slice x n (now (order .exit)) ≡ insert (notAbove (now (positions .entry))) x (slice (x + 1) n (now (order .entry)))) ⌝ }
+    ensures { λ r. ⌜ now (order .exit) ≡ take x (now (order .entry)) ++ (insert (notAbove (now (positions .entry))) x (slice (x + 1) n (now (order .entry))) ++ drop n (now (order .entry))) ⌝ }
 {
     let mut j = x;
     while j + 1 < n {
@@ -38,10 +39,10 @@ fn insert_heater(
     order[j] = x;
 }
 
-// The first n places hold the heaters' numbers in working order.
+// The heaters' numbers in working order, and zeros past them.
 pub fn working_order(n: usize, positions: &[f64; MAX_HEATERS]) -> [usize; MAX_HEATERS]
     requires { ⌜ n ≤ maxHeaters ⌝ }
-    ensures { λ r. ⌜ take n r ≡ risingOrder (now (positions .entry)) n ⌝ }
+    ensures { λ r. ⌜ r ≡ risingOrder (now (positions .entry)) n ++ replicate (maxHeaters - n) 0 ⌝ }
 {
     let mut order = [0; MAX_HEATERS];
     let mut x = n;

@@ -44,8 +44,7 @@ returns : tie.Need-returns Inv-loop μ-loop
 returns c =
     let test = c .before .before .before in
     let at = test .before .loop in
-    let done = inserting-stop _ _ _ _ _ _ (omega arith) (at .inv) (test .loop-test .taken) (sym (c .before .is-not-above .ensures) ∙ c .if1 .taken) in
-    (done .long, done .same)
+    inserting-stop _ _ _ _ _ _ (omega arith) (at .inv) (test .loop-test .taken) (sym (c .before .is-not-above .ensures) ∙ c .if1 .taken)
 
 mul-order-2 : tie.Need-mul-order-2 Inv-loop μ-loop
 mul-order-2 c = search needs
@@ -71,9 +70,7 @@ element-write-order-3 : tie.Need-element-write-order-3 Inv-loop μ-loop
 element-write-order-3 c = search needs
 
 returns-2 : tie.Need-returns-2 Inv-loop μ-loop
-returns-2 c =
-    let done = inserting-end _ _ _ _ _ _ (omega arith) (c .before .loop .inv) (c .loop-test .left) in
-    (done .long, done .same)
+returns-2 c = inserting-end _ _ _ _ _ _ (omega arith) (c .before .loop .inv) (c .loop-test .left)
 
 pub insert-heater-spec : {M : Type 1} → statement M
 insert-heater-spec =

@@ -1,5 +1,4 @@
 -- `working_order` meets its contract. The loop's invariant: the places from x on hold the heaters from x on, in order.
-use mathlib.Core.Path.{refl}
 use native.Mathlib.Omega.{arith}
 use Rattle.working_order.specs.Order.{notAbove, risingOrder}
 use Rattle.working_order.proofs.Sorting.{Sorted, sorted-start, sorted-numbers, sorted-turn, sorted-end}
@@ -14,7 +13,7 @@ abbrev μ-loop : tie.MeasureT-loop
 μ-loop n positions order₀ x₀ order x = x
 
 loop-holds : tie.Need-loop-holds Inv-loop μ-loop
-loop-holds c = sorted-start _ _ _ refl
+loop-holds c = sorted-start _ _ (omega arith)
 
 sub-x : tie.Need-sub-x Inv-loop μ-loop
 sub-x c = search needs
@@ -30,8 +29,7 @@ loop-less c = search needs
 loop-again : tie.Need-loop-again Inv-loop μ-loop
 loop-again c =
     let test = c .before .before in
-    let done = c .insert-heater .ensures in
-    sorted-turn _ _ _ _ _ (test .loop-test .taken) (test .before .loop .inv) (done .0) (done .1)
+    sorted-turn _ _ (omega arith) _ _ (test .loop-test .taken) (test .before .loop .inv) _ (c .insert-heater .ensures)
 
 returns : tie.Need-returns Inv-loop μ-loop
 unfolding risingOrder

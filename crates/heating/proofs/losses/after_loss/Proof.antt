@@ -1,5 +1,4 @@
 -- `losses::after_loss` meets its contract.
-use Rattle.heating.specs.Layer.{layerTemp}
 use borrow.Author.Needs.{needs}
 use Rattle.heating.proofs.losses.after_loss.Statement.{statement}
 use Rattle.heating.proofs.losses.after_loss.Tie as tie
@@ -11,7 +10,6 @@ limited-temp-requires : tie.Need-limited-temp-requires
 limited-temp-requires c κs = search needs
 
 returns : tie.Need-returns
-unfolding layerTemp
 returns c = rw (c .limited-temp .ensures, c .before .before .thermal-loss .ensures)
 
 pub after-loss-spec : {M : Type 1} → statement M

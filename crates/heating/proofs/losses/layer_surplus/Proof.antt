@@ -1,5 +1,5 @@
 -- `losses::layer_surplus` meets its contract.
-use Rattle.heating.specs.Layer.{layerSurplus}
+use Rattle.heating.specs.Losses.{surplusTerm}
 use borrow.Author.Needs.{needs}
 use Rattle.heating.proofs.losses.layer_surplus.Statement.{statement}
 use Rattle.heating.proofs.losses.layer_surplus.Tie as tie
@@ -14,7 +14,7 @@ upper-of-requires : tie.Need-upper-of-requires
 upper-of-requires c κs = search needs
 
 returns : tie.Need-returns
-unfolding layerSurplus
+unfolding surplusTerm
 returns c = rw (c .upper-of .ensures, c .before .before .before .thermal-loss .ensures, c .before .before .before .before .is-clearly-above .ensures)
 
 pub layer-surplus-spec : {M : Type 1} → statement M

@@ -8,8 +8,9 @@ use Rattle.numeric.specs.Double.{_⊕_}
 use Rattle.numeric.specs.Turns.{Rest, rest-start, rest-turn, rest-end}
 use Rattle.numeric.specs.InPlace.{Updating, updating-start, updating-turn, updating-end}
 use Rattle.numeric.specs.Sum2.{sumTurn, sum2-turns}
+use Rattle.cylinder.specs.Layers.{heatCapacity}
 use Rattle.heating.specs.declared.losses.LayerAfter.{LayerAfter}
-use Rattle.heating.specs.Losses.{loss, losses, limitedTemp, tempsAfter, chargedAfter}
+use Rattle.heating.specs.Losses.{limitedTemp, warmed, lossAt, losses, tempsAfter, chargedAfter}
 use Rattle.heating.proofs.Layer.{loss-local, charged-local, limited-local}
 use borrow.Author.Needs.{needs}
 use Rattle.heating.proofs.losses.lose_heat.Statement.{statement}
@@ -17,9 +18,9 @@ use Rattle.heating.proofs.losses.lose_heat.Tie as tie
 
 abbrev Inv-loop : tie.InvT-loop
 Inv-loop c vol p before temps₀ charged₀ n a₀ k₀ temps charged a k =
-    Updating (limitedTemp c vol p before temps₀ charged₀) n temps₀ k temps ×
-    Updating (λ (j : ℕ) (x : Float). x ⊕ loss c vol p before temps₀ charged₀ j) n charged₀ k charged ×
-    Rest (sumTurn (loss c vol p before temps₀ charged₀)) n a₀ k a
+    Updating (λ (j : ℕ) (t : Float). limitedTemp p (warmed c vol p before temps₀ charged₀ j) t (lossAt c vol p before temps₀ charged₀ j) (heatCapacity c vol j)) n temps₀ k temps ×
+    Updating (λ (j : ℕ) (x : Float). x ⊕ lossAt c vol p before temps₀ charged₀ j) n charged₀ k charged ×
+    Rest (sumTurn (lossAt c vol p before temps₀ charged₀)) n a₀ k a
 
 abbrev μ-loop : tie.MeasureT-loop
 μ-loop c vol p before temps₀ charged₀ n a₀ k₀ temps charged a k = n - k
@@ -94,7 +95,7 @@ loop-again c =
     let t = at .inv .0 .untouched (at .k) (le-refl _) in
     let q = at .inv .1 .untouched (at .k) (le-refl _) in
     let lost = ap (λ (x : LayerAfter). x .lost) (after .layer-after .ensures) ∙ loss-local _ _ _ _ _ _ _ _ _ t q in
-    let temp = ap (λ (x : LayerAfter). x .temp) (after .layer-after .ensures) ∙ limited-local _ _ _ _ _ _ _ _ _ t q in (
+    let temp = ap (λ (x : LayerAfter). x .temp) (after .layer-after .ensures) ∙ limited-local _ _ _ _ _ _ _ _ _ t q _ (loss-local _ _ _ _ _ _ _ _ _ t q) in (
       updating-turn _ _ _ _ _ _ l (at .inv .0) temp,
       updating-turn _ _ _ _ _ _ l (at .inv .1) (charged-local _ _ _ _ _ _ _ _ _ t q _ lost),
       rw (added .add-term .ensures, lost) (rest-turn _ _ _ _ _ l (at .inv .2)),

@@ -1,4 +1,5 @@
 -- `losses::standing_loss` meets its contract.
+use Rattle.heating.specs.Losses.{standingLoss}
 use borrow.Author.Needs.{needs}
 use Rattle.heating.proofs.losses.standing_loss.Statement.{statement}
 use Rattle.heating.proofs.losses.standing_loss.Tie as tie
@@ -7,6 +8,7 @@ stand-by-losses-coefficient-requires : tie.Need-stand-by-losses-coefficient-requ
 stand-by-losses-coefficient-requires c κs = search needs
 
 returns : tie.Need-returns
+unfolding standingLoss
 returns c = rw (c .before .before .before .before .before .stand-by-losses-coefficient .ensures)
 
 pub standing-loss-spec : {M : Type 1} → statement M

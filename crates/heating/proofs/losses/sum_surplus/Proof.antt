@@ -4,14 +4,13 @@ use native.Mathlib.Omega.{arith}
 use lib.Ieee.{Float}
 use Rattle.numeric.specs.Double.{_⊕_}
 use Rattle.numeric.specs.Turns.{Span, span-start, span-turn, span-end}
-use Rattle.heating.specs.Losses.{surplusTerm}
-use Rattle.heating.proofs.Layer.{surplus-here}
+use Rattle.heating.specs.Losses.{warmed, lossAt, surplusAt}
 use borrow.Author.Needs.{needs}
 use Rattle.heating.proofs.losses.sum_surplus.Statement.{statement}
 use Rattle.heating.proofs.losses.sum_surplus.Tie as tie
 
 abbrev Inv-loop : tie.InvT-loop
-Inv-loop c vol p before mixed charged layer n s₀ k₀ s k = Span (λ (j : ℕ) (x : Float). x ⊕ surplusTerm c vol p before mixed charged j) n k₀ s₀ k s
+Inv-loop c vol p before mixed charged layer n s₀ k₀ s k = Span (λ (j : ℕ) (x : Float). x ⊕ surplusAt c vol p before mixed charged j) n k₀ s₀ k s
 
 abbrev μ-loop : tie.MeasureT-loop
 μ-loop c vol p before mixed charged layer n s₀ k₀ s k = n - k
@@ -53,9 +52,10 @@ loop-less : tie.Need-loop-less Inv-loop μ-loop
 loop-less c = search needs
 
 loop-again : tie.Need-loop-again Inv-loop μ-loop
+unfolding warmed lossAt
 loop-again c =
     let test = c .before .before .before .before .before in
-    rw (c .layer-surplus .ensures, surplus-here) (span-turn _ _ _ _ _ _ (test .loop-test .taken) (test .before .loop .inv))
+    rw (c .layer-surplus .ensures) (span-turn _ _ _ _ _ _ (test .loop-test .taken) (test .before .loop .inv))
 
 returns : tie.Need-returns Inv-loop μ-loop
 returns c = span-end _ _ _ _ _ _ (c .loop-test .left) (c .before .loop .inv)

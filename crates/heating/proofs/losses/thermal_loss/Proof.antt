@@ -1,5 +1,5 @@
 -- `losses::thermal_loss` meets its contract.
-use Rattle.heating.specs.Layer.{layerLoss}
+use Rattle.heating.specs.Losses.{loss}
 use borrow.Author.Needs.{needs}
 use Rattle.heating.proofs.losses.thermal_loss.Statement.{statement}
 use Rattle.heating.proofs.losses.thermal_loss.Tie as tie
@@ -14,7 +14,7 @@ max-of-2-requires : tie.Need-max-of-2-requires
 max-of-2-requires c κs = search needs
 
 returns : tie.Need-returns
-unfolding layerLoss
+unfolding loss
 returns c = rw (c .max-of-2 .ensures, c .before .standing-loss .ensures, c .before .before .counted-temp .ensures)
 
 pub thermal-loss-spec : {M : Type 1} → statement M

@@ -4,7 +4,7 @@ use mathlib.Core.List.{List}
 use native.Mathlib.Omega.{arith}
 use lib.Ieee.{Float}
 use Rattle.working_order.specs.Order.{risingOrder}
-use Rattle.working_order.proofs.Entries.{entry}
+use Rattle.working_order.proofs.Entries.{first-entries, entry}
 use Rattle.step_work.proofs.TurnLoop.{order-is}
 use borrow.Author.Needs.{needs}
 use Rattle.job_history.proofs.facts.tell_turns.Statement.{statement}
@@ -17,12 +17,12 @@ working-order-requires : tie.Need-working-order-requires
 working-order-requires c κs = search needs
 
 tell-in-order-requires : tie.Need-tell-in-order-requires
-tell-in-order-requires c κs = (omega arith, omega arith, omega arith, c .before .before .before .before .before .before .pre .3, search needs, λ k l. entry _ _ _ (c .before .before .before .working-order .ensures) k l .1)
+tell-in-order-requires c κs = (omega arith, omega arith, omega arith, c .before .before .before .before .before .before .pre .3, search needs, λ k l. entry _ _ _ (c .before .before .before .working-order .ensures) k l)
 
 returns : tie.Need-returns
 returns c =
     let a = c .before .before .before .before .before .before .before .args in
-    let order = order-is (a .c) (a .n) (a .fitted) (omega arith) ∙ sym (ap (λ (ps : List Float). risingOrder ps (a .n)) (c .before .before .before .before .before .before .positions-of .ensures)) ∙ sym (c .before .before .before .before .working-order .ensures) in
+    let order = order-is (a .c) (a .n) (a .fitted) (omega arith) ∙ sym (ap (λ (ps : List Float). risingOrder ps (a .n)) (c .before .before .before .before .before .before .positions-of .ensures)) ∙ sym (first-entries _ _ _ (c .before .before .before .before .working-order .ensures)) in
     (rw order (c .tell-in-order .ensures .0), c .tell-in-order .ensures .1)
 
 pub tell-turns-spec : {M : Type 1} → statement M

@@ -12,7 +12,7 @@ is-same-requires : tie.Need-is-same-requires
 is-same-requires c κs = search needs
 
 returns : tie.Need-returns
-returns c = λ e. sym (c .before .total-of .ensures) ∙ c .is-same .ensures e (c .before .before .if1 .taken)
+returns c = λ e. sym (c .before .total-of .ensures) ∙ c .is-same .ensures .1 e (c .before .before .if1 .taken)
 
 returns-2 : tie.Need-returns-2
 returns-2 c = λ e. absurd (true≢false (sym e))

@@ -1,0 +1,49 @@
+-- `tanks::tank_in` meets its contract (01, The four calls): each number is read at its place.
+use borrow.Author.Needs.{needs}
+use Rattle.shim.proofs.tanks.tank_in.Statement.{statement}
+use Rattle.shim.proofs.tanks.tank_in.Tie as tie
+
+fitted-in-requires : tie.Need-fitted-in-requires
+fitted-in-requires c κs = search needs
+
+array-read-t12 : tie.Need-array-read-t12
+array-read-t12 c = search needs
+
+array-read-t15 : tie.Need-array-read-t15
+array-read-t15 c = search needs
+
+array-read-t18 : tie.Need-array-read-t18
+array-read-t18 c = search needs
+
+array-read-t21 : tie.Need-array-read-t21
+array-read-t21 c = search needs
+
+array-read-t24 : tie.Need-array-read-t24
+array-read-t24 c = search needs
+
+array-read-t27 : tie.Need-array-read-t27
+array-read-t27 c = search needs
+
+array-read-t30 : tie.Need-array-read-t30
+array-read-t30 c = search needs
+
+array-read-t33 : tie.Need-array-read-t33
+array-read-t33 c = search needs
+
+returns : tie.Need-returns
+returns c = rw (c .fitted-in .ensures)
+
+pub tank-in-spec : {M : Type 1} → statement M
+tank-in-spec =
+    tie.close
+    (tie.spec
+    fitted-in-requires
+    array-read-t12
+    array-read-t15
+    array-read-t18
+    array-read-t21
+    array-read-t24
+    array-read-t27
+    array-read-t30
+    array-read-t33
+    returns)
