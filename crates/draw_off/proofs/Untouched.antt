@@ -65,8 +65,7 @@ module _ (c : Cylinder) (feed : Float) (temps : List Float) (wanted : Float) whe
         let e : i ≡ 0 = omega arith in
         rw e at (l .reach)
 
-  -- what is not reached is as it was
-  pub reach-within : (n : ℕ) (d : Draw) → unreached c feed temps wanted n d ≤ n
+  reach-within : (n : ℕ) (d : Draw) → unreached c feed temps wanted n d ≤ n
   unfolding unreached
   reach-within zero d = omega arith
   reach-within (suc i) d =
@@ -77,6 +76,7 @@ module _ (c : Cylinder) (feed : Float) (temps : List Float) (wanted : Float) whe
   kept-either true m k d e xs p q = p
   kept-either false m k d e xs p q = q
 
+  -- what is not reached is as it was
   reach-leaves : (n : ℕ) (d : Draw) → SameBelow (unreached c feed temps wanted n d) (drawLayers c feed temps wanted n d .held) (d .held)
   unfolding unreached drawLayers
   reach-leaves zero d = λ k h. refl

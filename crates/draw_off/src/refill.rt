@@ -18,8 +18,8 @@ pub struct LayerFilling {
     pub coldest: f64,
 }
 
-// The volumes of a layer that repeats: it takes `full` and holds `held`; it lacks `lack`, and has `after` when it is filled. A full layer below it comes to have
-// the same, so they are worked once, and no layer waits for the one above it.
+// The volumes of a layer, where it repeats: it takes `full` and holds `held`; it lacks `lack`, and has `after` when it is filled. A full layer below it comes
+// to have the same, so they are worked once, and no layer waits for the one above it.
 pub struct KeptFilling {
     pub repeats: bool,
     pub full: f64,
