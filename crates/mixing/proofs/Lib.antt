@@ -1,11 +1,10 @@
--- The laws of `mixing`, the lemmas that its proofs share, and the table of figures.
+-- The laws of `mixing`, and the lemmas that its proofs share.
 pub mod Group
 pub mod Rounds
 pub mod Length
 pub mod Places
 pub mod Array
 pub mod Order
-pub mod Figures
 pub mod Keeps
 pub mod Joins
 pub mod Fill
