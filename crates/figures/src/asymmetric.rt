@@ -36,10 +36,7 @@ fn draws() {
     let first = answers::first_step(dense(4, 32.0, 50.0, 1.0), a);
     answers::step(first.tank, first.report, tanks::draws(10.0, 1, 40.0));
     print::word(b"# A feed warmer than the tank: the event ends in a mixing\n");
-    answers::first_step(
-        dense(4, 32.0, 20.0, 1.0),
-        tanks::draws(60.0, 1, 12.0),
-    );
+    answers::first_step(dense(4, 32.0, 20.0, 1.0), tanks::draws(60.0, 1, 12.0));
 }
 
 // A design with three heaters, as given.
@@ -67,7 +64,9 @@ fn for_three(first: SetPoints, second: SetPoints, third: SetPoints) -> Step {
 }
 
 fn three_heaters() {
-    print::word(b"# Three heaters given out of order, two thermostats elsewhere, losses charged once and a layer limited\n");
+    print::word(
+        b"# Three heaters given out of order, two thermostats elsewhere, losses charged once and a layer limited\n",
+    );
     let mut m = dense(4, 200.0, 40.0, 0.5);
     m.standby = 27.0;
     m.ambient = 30.0;
@@ -87,7 +86,9 @@ fn three_heaters() {
 }
 
 fn thermostats() {
-    print::word(b"# A draw, then three heaters given out of order that switch by thermostats in other layers\n");
+    print::word(
+        b"# A draw, then three heaters given out of order that switch by thermostats in other layers\n",
+    );
     let mut a = for_three(
         SetPoints::Both(20.0, 51.0),
         SetPoints::Both(20.0, 60.0),
