@@ -4,7 +4,7 @@
 use Prim.Native.Nat.{ℕ, _^_}
 use mathlib.Core.Path.{_≡_, refl}
 use mathlib.Core.Bool.{Bool, true, false}
-use mathlib.Core.List.{List, [], _∷_, map}
+use mathlib.Core.List.{List, [], _∷_, _++_, map}
 use lib.ListN.{replicate}
 use lib.Ieee.{Float, nan, neg}
 use Rattle.numeric.specs.Double.{whole, zero-f}
@@ -17,8 +17,8 @@ use Rattle.tank_model.specs.Members.{All}
 use Rattle.storage_tank.specs.declared.StorageTank.{StorageTank}
 use Rattle.storage_tank.specs.declared.Report.{Report}
 use Rattle.storage_tank.specs.declared.Stepped.{Stepped}
-use Rattle.figures_table.specs.Figure.{Figure, steps, Holds, _and_, nearest, minus, heater, heaterWith, design, settings, asks}
-use Rattle.figures_table.specs.Figure.{tank, report, line, answer}
+use Rattle.figures_table.specs.Figure.{Figure, steps, lent, Holds, _and_, nearest, minus, heater, heaterWith, design, settings, asks}
+use Rattle.figures_table.specs.Figure.{padded, tankWith, tank, report, line, answer}
 use Rattle.figures_table.specs.Opened.{opened}
 
 abbrev half : Float
@@ -207,10 +207,24 @@ refused =
     ∷ answer 0 (tank-after (35 ∷ 45 ∷ [])) (report-after 640 8)
     ∷ [])
 
+-- ---- unused places
+
+-- a heater that no call may look at
+abbrev junk : Heater
+junk = heaterWith nan (whole 7) nan
+
+-- The last step of the figure above, on a tank lent with something in every unused place: the step keeps it, and the report's unused places are zero.
+abbrev kept : Figure
+kept =
+    lent
+    (tankWith (two 0) 1 (own-thermostat half ++ replicate 7 junk) (wholes (30 ∷ 60 ∷ []) ++ replicate 30 nan) (replicate 8 true))
+    (asks (whole 20) (wholes (8 ∷ [])) upper ∷ [])
+    (answer 0 (tankWith (two 0) 1 (padded 8 (own-thermostat half) junk) (padded 32 (wholes (35 ∷ 45 ∷ [])) nan) (replicate 8 true)) (report-after 640 8) ∷ [])
+
 -- ---- the table
 
 abbrev asymmetric : List Figure
-asymmetric = draws ∷ hot-feed ∷ three-heaters ∷ thermostats ∷ set-points ∷ small-input ∷ warm-room ∷ refused ∷ []
+asymmetric = draws ∷ hot-feed ∷ three-heaters ∷ thermostats ∷ set-points ∷ small-input ∷ warm-room ∷ refused ∷ kept ∷ []
 
 pub table : All Holds asymmetric
 unfolding opened
@@ -223,4 +237,5 @@ table =
     and (tt, refl, λ r. refl)
     and (tt, refl, λ r. refl)
     and (tt, refl, λ r. refl)
+    and (tt, λ r. refl)
     and tt

@@ -21,19 +21,20 @@ use Rattle.tank_model.specs.declared.TankDesign.{TankDesign}
 use Rattle.tank_model.specs.declared.Setting.{Setting}
 use Rattle.tank_model.specs.declared.Step.{Step}
 use Rattle.tank_model.specs.declared.HeaterLine.{HeaterLine}
-use Rattle.tank_model.specs.Work.{zeroLine}
 use Rattle.tank_model.specs.History.{step}
 use Rattle.storage_tank.specs.declared.StorageTank.{StorageTank}
 use Rattle.storage_tank.specs.declared.Report.{Report}
 use Rattle.storage_tank.specs.declared.Made.{Made}
 use Rattle.storage_tank.specs.declared.Stepped.{Stepped}
-use Rattle.storage_tank.specs.Calls.{zeroHeater, made, answers}
+use Rattle.storage_tank.specs.Calls.{made, answers}
 
 -- ---- figures
 
 pub data Figure : Type 0 where
   -- steps: what make is given, the tank it makes, the steps on it one after another, and what each answers
   steps : TankDesign → StorageTank → List Step → List Stepped → Figure
+  -- steps on a tank as it is lent, whatever its unused places hold
+  lent : StorageTank → List Step → List Stepped → Figure
   -- make alone: what it is given, and what it answers
   make : TankDesign → Made → Figure
   -- a position, the number of layers, and the position's layer
@@ -42,15 +43,24 @@ pub data Figure : Type 0 where
   mix : List Float → Float → ℕ → ℕ → List Float → Figure
 
 -- the arrays have the lengths that the calls take
-abbrev pub fits : TankDesign → List Step → Bool
-fits m [] = eqb (length (m .fitted)) maxHeaters
-fits m (a ∷ asked) = eqb (length (a .volumes)) maxEvents && eqb (length (a .settings)) maxHeaters && fits m asked
+abbrev pub fits : List Step → Bool
+fits [] = true
+fits (a ∷ asked) = eqb (length (a .volumes)) maxEvents && eqb (length (a .settings)) maxHeaters && fits asked
 
--- the report handed to the first step is any
+abbrev pub fitsDesign : TankDesign → Bool
+fitsDesign m = eqb (length (m .fitted)) maxHeaters
+
+abbrev pub fitsTank : StorageTank → Bool
+fitsTank t = eqb (length (t .temps)) maxLayers && eqb (length (t .fitted)) maxHeaters && eqb (length (t .flags)) maxHeaters
+
+-- what the steps answer, whatever report is handed to the first
+abbrev pub Answers : StorageTank → List Step → List Stepped → Type 0
+Answers t asked after = (r : Report) → answers t r (map step asked) ≡ after
+
 abbrev pub Holds : Figure → Type 0
-Holds (steps m t asked after) =
-    T (fits m asked) × (made m ≡ record { number = 0; tank = t }) × ((r : Report) → answers (made m .tank) r (map step asked) ≡ after)
-Holds (make m answer) = T (fits m []) × (made m ≡ answer)
+Holds (steps m t asked after) = T (fitsDesign m && fits asked) × (made m ≡ record { number = 0; tank = t }) × Answers (made m .tank) asked after
+Holds (lent t asked after) = T (fitsTank t && fits asked) × Answers t asked after
+Holds (make m answer) = T (fitsDesign m) × (made m ≡ answer)
 Holds (layer position layers k) = layerOf position layers ≡ k
 Holds (mix layers volume number rounds after) =
     (numberOf (mixAnswer layers volume) ≡ number) × (roundsOf (mixAnswer layers volume) ≡ rounds) × (mixLayers layers volume ≡ after)
@@ -111,10 +121,10 @@ asks feed volumes ps = record {
   settings = settings ps;
 }
 
--- ---- answers: unused places are zero
+-- ---- answers: unused places are zero, or what they were in the tank lent
 
-abbrev pub tank : Cylinder → List Heater → List Float → List Bool → StorageTank
-tank c fitted temps flags = record {
+abbrev pub tankWith : Cylinder → ℕ → List Heater → List Float → List Bool → StorageTank
+tankWith c n fitted temps flags = record {
   layers = c .layers;
   volume = c .volume;
   standby = c .standby;
@@ -122,11 +132,25 @@ tank c fitted temps flags = record {
   cp = c .cp;
   ambient = c .ambient;
   timestep = c .timestep;
-  temps = padded maxLayers temps zero-f;
-  heaters = length fitted;
-  fitted = padded maxHeaters fitted zeroHeater;
-  flags = padded maxHeaters flags false;
+  temps = temps;
+  heaters = n;
+  fitted = fitted;
+  flags = flags;
 }
+
+abbrev pub tank : Cylinder → List Heater → List Float → List Bool → StorageTank
+tank c fitted temps flags =
+    tankWith c (length fitted) (padded maxHeaters fitted (heater zero-f zero-f zero-f)) (padded maxLayers temps zero-f) (padded maxHeaters flags false)
+
+-- the tank of a refused make
+abbrev pub noTank : StorageTank
+noTank =
+    tank
+    (record { layers = 0; volume = zero-f; standby = zero-f; rho = zero-f; cp = zero-f; ambient = zero-f; timestep = zero-f }) [] [] []
+
+-- a heater's line: its flag, adjusted input, energy supplied, losses and rounds
+abbrev pub line : Bool → Float → Float → Float → ℕ → HeaterLine
+line flag adjusted supplied losses rounds = record { flag = flag; adjusted = adjusted; supplied = supplied; losses = losses; rounds = rounds }
 
 abbrev pub report : Float → Float → Float → Float → List HeaterLine → Report
 report energy used average recoverable lines = record {
@@ -134,12 +158,8 @@ report energy used average recoverable lines = record {
   used = used;
   average = average;
   recoverable = recoverable;
-  lines = padded maxHeaters lines zeroLine;
+  lines = padded maxHeaters lines (line false zero-f zero-f zero-f 0);
 }
-
--- a heater's line: its flag, adjusted input, energy supplied, losses and rounds
-abbrev pub line : Bool → Float → Float → Float → ℕ → HeaterLine
-line flag adjusted supplied losses rounds = record { flag = flag; adjusted = adjusted; supplied = supplied; losses = losses; rounds = rounds }
 
 abbrev pub answer : ℕ → StorageTank → Report → Stepped
 answer n t r = record { number = n; tank = t; report = r }

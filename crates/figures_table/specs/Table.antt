@@ -15,8 +15,8 @@ use Rattle.tank_model.specs.declared.Step.{Step}
 use Rattle.tank_model.specs.declared.HeaterLine.{HeaterLine}
 use Rattle.tank_model.specs.Members.{All}
 use Rattle.storage_tank.specs.declared.Stepped.{Stepped}
-use Rattle.storage_tank.specs.Calls.{zeroTank}
-use Rattle.figures_table.specs.Figure.{Figure, _and_, steps, make, layer, mix, Holds, nearest, minus, heater, design, asks, tank, report, line, answer}
+use Rattle.figures_table.specs.Figure.{Figure, _and_, steps, make, layer, mix, Holds, nearest, minus, heater, design, asks}
+use Rattle.figures_table.specs.Figure.{tank, noTank, report, line, answer}
 use Rattle.figures_table.specs.Opened.{opened}
 
 -- density and specific heat 1, ambient 20: the layers, the litres, the standby loss and the step length
@@ -119,7 +119,7 @@ starred =
     ∷ steps (design (plain 4) 40 (middle ∷ [])) (tank (plain 4) (middle ∷ []) (wholes (40 ∷ 40 ∷ 40 ∷ 40 ∷ [])) []) (points 50 60 ∷ [])
     (answer 0 (tank (plain 4) (middle ∷ []) (wholes (40 ∷ 40 ∷ 45 ∷ 45 ∷ [])) (true ∷ []))
     (report zero-f zero-f (whole 40) zero-f (line true (whole 160) (whole 160) zero-f 1 ∷ [])) ∷ [])
-    ∷ make (design (plain 4) 60 (heater (whole 160) (whole 1) zero-f ∷ [])) (record { number = 5; tank = zeroTank })
+    ∷ make (design (plain 4) 60 (heater (whole 160) (whole 1) zero-f ∷ [])) (record { number = 5; tank = noTank })
     ∷ heated (points 45 45 ∷ []) (warmed 45 40 false 160 ∷ [])
     ∷ []
 
