@@ -1,4 +1,4 @@
--- The laws of `mixing`, the lemmas that its proofs share, and the table of figures.
+-- The laws of `mixing`, and the lemmas that its proofs share.
 pub mod Group
 pub mod Rounds
 pub mod Length
@@ -6,7 +6,6 @@ pub mod Places
 pub mod Array
 pub mod Order
 pub mod Answers
-pub mod Figures
 pub mod Keeps
 pub mod Joins
 pub mod Fill

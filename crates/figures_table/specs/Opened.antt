@@ -1,0 +1,50 @@
+-- One name that opens every definition of a mixing, a make and a step (01, Arithmetic underneath to Step): under it a figure is proved by computing both
+-- sides.
+use lib.Ieee as I
+use Rattle.numeric.specs.Compare as Compare
+use Rattle.numeric.specs.Close as Close
+use Rattle.numeric.specs.Turns as Turns
+use Rattle.numeric.specs.Holds as Holds
+use Rattle.numeric.specs.Tabulate as Tabulate
+use Rattle.numeric.specs.Sum2 as Sum2
+use Rattle.numeric.specs.Whole as Whole
+use Rattle.mixing.specs.Round as Round
+use Rattle.mixing.specs.Rearrange as Rearrange
+use Rattle.mixing.specs.Mix as Mix
+use Rattle.cylinder.specs.Layers as Layers
+use Rattle.draw_off.specs.Cold as Cold
+use Rattle.draw_off.specs.Draw as Draw
+use Rattle.draw_off.specs.Refill as Refill
+use Rattle.draw_off.specs.Event as Event
+use Rattle.heating.specs.Switch as Switch
+use Rattle.heating.specs.Heat as Heat
+use Rattle.heating.specs.Losses as Losses
+use Rattle.heating.specs.Supply as Supply
+use Rattle.heating.specs.Turn as Turn
+use Rattle.working_order.specs.Order as Sorting
+use Rattle.tank_model.specs.Fixed as Fixed
+use Rattle.tank_model.specs.Order as Order
+use Rattle.tank_model.specs.Checks as Checks
+use Rattle.tank_model.specs.Work as Work
+use Rattle.storage_tank.specs.Calls as Calls
+
+unfoldable pub opened : Unit {0}
+unfolding I.round I.ofInt I.ofBits I.add I.sub I.mul I.div I.neg I.lt I.le I.eq Compare.minOf2 Compare.maxOf2 Close.magnitude Close.infinite Close.within
+    Close.close Close.narrowClose Close.wideClose
+    Turns.turns Holds.holds Tabulate.tabulate Sum2.accumulate Sum2.accumulateAll Sum2.sum2 Whole.wholeBelow Whole.layerOf Layers.layerVolume
+    Layers.layerVolumes Layers.noVolume Layers.allFinite
+    Round.joins Round.member Round.groupTemp Round.pair Round.oneRound Rearrange.isSorted Rearrange.rounds Rearrange.rearrange Mix.mixRefusal
+    Cold.cold Draw.givesAll Draw.share Draw.restAfter Draw.drawShare Draw.drawLayer Draw.drawLayers Draw.drawFeed Draw.extract Draw.volumeUsed
+    Refill.takeShare Refill.takeFrom Refill.takeBelow Refill.fromFeed Refill.entersWarmer Refill.fillingOf Refill.refillLayer Refill.refillLayers
+    Refill.refill
+    Event.eventMixing Event.eventOf Event.tempsAfterEvent Event.totalsAfterEvent Event.eventFinite Event.eventNumber Event.drawAll
+    Switch.hasUpper Switch.upperOf Switch.atOrUnderLower Switch.upperMissingOrReached Switch.switchOn Switch.switchOff Heat.offer Heat.heated
+    Losses.clearlyAbove Losses.overUpper Losses.standbyCoefficient Losses.warmed Losses.countedTemp Losses.standingLoss Losses.loss Losses.lossAt Losses.losses
+    Losses.limitedTemp Losses.tempsAfter Losses.chargedAfter Losses.surplusTerm Losses.surplus Losses.adjusted
+    Supply.demand Supply.supply Turn.input Turn.heatAndMix Turn.adjustedInput Turn.afterMixing Turn.turn Turn.turnFinite Turn.turnNumber
+    Fixed.placedHeaters Sorting.insert Sorting.insertionSort Sorting.risingOrder Order.workingOrder Checks.firstRefusal Checks.fairPoints
+    Checks.makeRefusal Checks.stepRefusal
+    Work.resume Work.andThen Work.endBy Work.events Work.averageOf Work.withAverage Work.turnOf Work.afterTurn
+    Work.heaterTurn Work.turns Work.opening Work.recoverable Work.closed Work.begin Work.work
+    Calls.fittedHeaters Calls.madeOf Calls.made Calls.answer Calls.stepped Calls.answered Calls.answers
+opened = tt
