@@ -223,7 +223,7 @@ kept =
 
 -- ---- the table
 
-abbrev asymmetric : List Figure
+abbrev pub asymmetric : List Figure
 asymmetric = draws ∷ hot-feed ∷ three-heaters ∷ thermostats ∷ set-points ∷ small-input ∷ warm-room ∷ refused ∷ kept ∷ []
 
 pub table : All Holds asymmetric
