@@ -1,5 +1,5 @@
-// The figures that no symmetry hides: density 4, specific heat 0.5, and layers, heaters and steps that differ. They are theorems too (`Asymmetric` of figures_table), and
-// the Rust gives the same numbers (compare/asymmetric).
+// The figures that no symmetry hides: density 4, specific heat 0.5, and layers, heaters and steps that differ. They are theorems too (`Asymmetric` of
+// figures_table), and the Rust gives the same numbers (compare/asymmetric).
 use crate::answers;
 use crate::print;
 use crate::tanks;
