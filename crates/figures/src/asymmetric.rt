@@ -1,5 +1,5 @@
-// The figures that no symmetry hides: density 4, specific heat 0.5, and layers, heaters and steps that differ. They are theorems too (`Asymmetric` of figures_table), and
-// the Rust gives the same numbers (compare/asymmetric).
+// The figures that no symmetry hides: density 4, specific heat 0.5, and layers, heaters and steps that differ. They are theorems too (`Asymmetric` of
+// figures_table), and the Rust gives the same numbers (compare/asymmetric).
 use crate::answers;
 use crate::print;
 use crate::tanks;
@@ -27,6 +27,11 @@ fn heater_with(rated: f64, position: f64, thermostat: f64) -> Heater {
     }
 }
 
+// The next step, on the tank and the report that the one before returned.
+fn after(before: Stepped, a: Step) -> Stepped {
+    answers::step(before.tank, before.report, a)
+}
+
 fn draws() {
     print::word(
         b"# Two draws in a step, a draw that spans layers, and one of more than the tank holds\n",
@@ -34,7 +39,7 @@ fn draws() {
     let mut a = tanks::draws(10.0, 2, 12.0);
     a.volumes[1] = 20.0;
     let first = answers::first_step(dense(4, 32.0, 50.0, 1.0), a);
-    answers::step(first.tank, first.report, tanks::draws(10.0, 1, 40.0));
+    after(first, tanks::draws(10.0, 1, 40.0));
     print::word(b"# A feed warmer than the tank: the event ends in a mixing\n");
     answers::first_step(dense(4, 32.0, 20.0, 1.0), tanks::draws(60.0, 1, 12.0));
 }
@@ -125,9 +130,8 @@ fn for_one(points: SetPoints) -> Step {
     a
 }
 
-// The next step of a tank with one heater.
 fn next(before: Stepped, points: SetPoints) -> Stepped {
-    answers::step(before.tank, before.report, for_one(points))
+    after(before, for_one(points))
 }
 
 fn set_points() {
@@ -172,24 +176,31 @@ fn drawing(feed: f64, events: usize, volume: f64, points: SetPoints) -> Step {
     a
 }
 
+// Refused for 6, 7 and 8.
+fn checks(first: Stepped) -> Stepped {
+    let many = after(first, drawing(20.0, 65, 1.0, SetPoints::Upper(70.0)));
+    let mut a = drawing(20.0, 2, 16.0, SetPoints::Upper(70.0));
+    a.volumes[1] = -1.0;
+    let negative = after(many, a);
+    after(negative, drawing(20.0, 1, 16.0, SetPoints::Lower(50.0)))
+}
+
+// Refused for 9 and 10.
+fn work(before: Stepped) -> Stepped {
+    let unordered = after(before, drawing(1e307, 1, 32.0, SetPoints::Upper(70.0)));
+    after(unordered, drawing(-1e307, 1, 16.0, SetPoints::Upper(70.0)))
+}
+
 fn refused() {
     print::word(b"# Steps refused for 6 to 10 between two accepted ones\n");
     let first = answers::first_step(
         with_one(dense(2, 32.0, 60.0, 0.5), tanks::heater(640.0, 0.0)),
         drawing(20.0, 1, 16.0, SetPoints::Both(50.0, 70.0)),
     );
-    let upper = SetPoints::Upper(70.0);
-    let many = answers::step(first.tank, first.report, drawing(20.0, 65, 1.0, upper));
-    let mut a = drawing(20.0, 2, 16.0, upper);
-    a.volumes[1] = -1.0;
-    let negative = answers::step(many.tank, many.report, a);
-    a = drawing(20.0, 1, 16.0, SetPoints::Lower(50.0));
-    let lower = answers::step(negative.tank, negative.report, a);
-    a = drawing(1e307, 1, 32.0, upper);
-    let unordered = answers::step(lower.tank, lower.report, a);
-    a = drawing(-1e307, 1, 16.0, upper);
-    let infinite = answers::step(unordered.tank, unordered.report, a);
-    answers::step(infinite.tank, infinite.report, drawing(20.0, 1, 8.0, upper));
+    after(
+        work(checks(first)),
+        drawing(20.0, 1, 8.0, SetPoints::Upper(70.0)),
+    );
 }
 
 pub fn figures() {

@@ -1,8 +1,8 @@
 -- A second table, of figures that no symmetry hides (01, Draw to Step; refusals 6 to 10), and the theorem that each holds: density 4 and specific heat 0.5,
 -- so that neither can be left out and their product is not 1; layers, heaters and steps that differ. Each row's arithmetic stands above it, and the Rust
--- gives the same lines (compare/asymmetric).
+-- gives the same lines (compare/asymmetric) but for the last row, whose tank no job can lend.
 use Prim.Native.Nat.{ℕ, _^_}
-use mathlib.Core.Path.{_≡_, refl}
+use mathlib.Core.Path.{refl}
 use mathlib.Core.Bool.{Bool, true, false}
 use mathlib.Core.List.{List, [], _∷_, _++_, map}
 use lib.ListN.{replicate}
@@ -223,7 +223,7 @@ kept =
 
 -- ---- the table
 
-abbrev asymmetric : List Figure
+abbrev pub asymmetric : List Figure
 asymmetric = draws ∷ hot-feed ∷ three-heaters ∷ thermostats ∷ set-points ∷ small-input ∷ warm-room ∷ refused ∷ kept ∷ []
 
 pub table : All Holds asymmetric

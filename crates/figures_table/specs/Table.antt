@@ -8,7 +8,6 @@ use lib.ListN.{replicate}
 use lib.Ieee.{Float, binary64, nan, round, ofBits}
 use Rattle.numeric.specs.Double.{dbl, whole, zero-f}
 use Rattle.cylinder.specs.declared.Cylinder.{Cylinder}
-use Rattle.heating.specs.declared.SetPoints.{SetPoints}
 use Rattle.heating.specs.declared.SetPoints.the-variants.{Neither, Both}
 use Rattle.tank_model.specs.declared.Heater.{Heater}
 use Rattle.tank_model.specs.declared.Step.{Step}
@@ -90,7 +89,7 @@ middle = heater (whole 160) (nearest 5 10) zero-f
 
 -- ---- the table
 
-abbrev starred : List Figure
+abbrev pub starred : List Figure
 starred =
     -- four layers at 60, feed 12, draw 16: 12, 60, 60, 60; energy 768, average 60
     drawn 4 12 16 (12 ∷ 60 ∷ 60 ∷ 60 ∷ []) (whole 768) 16 (whole 60)
@@ -172,7 +171,7 @@ abbrev full : HeaterLine
 full = line true (whole 160) (whole 160) zero-f 1
 
 -- the figure without a star, and 01's traps
-abbrev unstarred : List Figure
+abbrev pub unstarred : List Figure
 unstarred =
     -- not-a-number with 20: refusal 9
     mix (nan ∷ whole 20 ∷ []) (whole 16) 9 0 (nan ∷ whole 20 ∷ [])
