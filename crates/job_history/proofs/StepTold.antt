@@ -22,7 +22,7 @@ use Rattle.tank_model.specs.Fixed.{Fixed, placedHeaters}
 use Rattle.tank_model.specs.Order.{workingOrder}
 use Rattle.tank_model.specs.Checks.{stepRefusal}
 use Rattle.tank_model.specs.Members.{All}
-use Rattle.tank_model.specs.Work.{Progress, Turn, End, refused, done, resume, andThen, endBy, withDraw, event, events, wantedVolumes, withAverage, turnOf, afterTurn, heaterTurn, turns, allTurns, opening, begin, work}
+use Rattle.tank_model.specs.Work.{Progress, Turn, End, refused, done, resume, andThen, endBy, withDraw, events, wantedVolumes, withAverage, turnOf, afterTurn, heaterTurn, turns, allTurns, opening, begin, work}
 use Rattle.tank_model.proofs.Order.{many-placed, placed-at, order-below}
 use Rattle.tank_arrays.proofs.FirstRefusal.{step-counts}
 use Rattle.step_work.specs.Lent.{noTotals}
