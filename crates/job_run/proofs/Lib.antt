@@ -3,3 +3,5 @@ pub mod Moves
 pub mod Ends
 pub mod Rest
 pub mod EmptyInput
+pub mod TurnWindow
+pub mod Windowed
