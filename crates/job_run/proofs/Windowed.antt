@@ -12,7 +12,7 @@ use Rattle.job_reader.specs.Windows.{Window, AreBytes, maxRecord, isReady}
 use Rattle.job_reader.proofs.ReadLaws.{both}
 use Rattle.job_run.specs.declared.Job.{Job}
 use Rattle.job_run.specs.Job.{Turn, startJob, offsetOf, followed, turn, runAll, jobText}
-use Rattle.job_run.specs.Windows.{inWhole, turnInWhole, movedUp, runReady, windowRun, Windowed, begun, another}
+use Rattle.job_run.specs.Windows.{inWhole, turnInWhole, movedUp, runReady, windowTurns, windowRun, Windowed, begun, another}
 use Rattle.job_run.proofs.Moves.{Moves, turn-moves}
 use Rattle.job_run.proofs.Ends.{Within, turnsLeft, turn-within, turn-before, turn-less}
 use Rattle.job_run.proofs.Rest.{restOf, rest-start, rest-turn, rest-ended}
@@ -92,12 +92,12 @@ module _ (f : List ℕ → Job → Turn) (s : List ℕ) (law : Windows f s) wher
 
   pub told : (j : Job) (text : List ℕ) → Windowed f s j text → Told j text
   told j text begun = record { begins = refl; counted = omega arith; placed = omega arith; whole = rest-start (f s) (length s) }
-  told _ _ (another j text d w last window honest) =
+  told _ _ (another j text d w last window honest n) =
       let i = told j text d in
       let a = i .begins in
       let c = i .counted in
-      let r = windowRun f w last j in
-      let x : Run (j .before) w last window honest j r = run-runs (j .before) w last window honest (length w + 1) j refl (record { placed = omega arith; counted = omega arith }) in
+      let r = windowTurns f w last n j in
+      let x : Run (j .before) w last window honest j r = run-runs (j .before) w last window honest n j refl (record { placed = omega arith; counted = omega arith }) in
       let b = x .before in
       let y = x .within .counted in
       let z = x .within .placed in
