@@ -2,4 +2,5 @@
 pub mod Moves
 pub mod Ends
 pub mod Rest
+pub mod Handed
 pub mod EmptyInput

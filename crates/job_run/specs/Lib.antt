@@ -1,2 +1,3 @@
--- The definitions of `job_run`: a job, what one record makes of it, and all that it prints.
+-- The definitions of `job_run`: a job, what one record makes of it, all that it prints, and how far a program came that prints it.
 pub mod Job
+pub mod Handed

@@ -23,3 +23,10 @@ pub struct Printed {
     pub job: Job,
     pub length: usize,
 }
+
+// A job after one record or more, how many bytes of their lines were taken, and whether a write failed: then some are left.
+pub struct Ran {
+    pub job: Job,
+    pub taken: usize,
+    pub failed: bool,
+}
