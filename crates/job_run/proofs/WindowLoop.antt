@@ -14,7 +14,7 @@ use Rattle.job_run.proofs.Moves.{Moves}
 use Rattle.job_run.proofs.Ends.{Within, turnsLeft, turn-within, turn-before, turn-less}
 
 module _ (f : Job → Turn) (ready : ℕ → Bool) where
-  abbrev goesOn : Job → Bool
+  abbrev pub goesOn : Job → Bool
   goesOn j = not (j .ended) && ready (j .at)
 
   -- one record more is the next turn of the job that the first ones left
@@ -83,3 +83,15 @@ module _ (f : Job → Turn) (ready : ℕ → Bool) where
     -- they were not
     pub running-cut : (more : ℕ) → more < length (f j .text) → (length (runReady f ready (r .records) j₀ .text) ≤ taken + more) × (taken + more < length (runReady f ready (suc (r .records)) j₀ .text))
     running-cut more l = let c = r .counts in let n = longer in (omega arith, omega arith)
+
+  -- however many records are run, the job stays within the window, and that where it is in the input
+  pub run-within : (size : ℕ) → ((j : Job) → Moves j size (f j)) → (n : ℕ) (j : Job) → Within size j → Within size (runReady f ready n j .job) × (runReady f ready n j .job .before ≡ j .before)
+  unfolding runReady
+  run-within size moves zero j w = (w, refl)
+  run-within size moves (suc n) j w =
+      let more = run-within size moves n (f j .job) (turn-within f size moves j w) in
+      go (goesOn j) (more .0, more .1 ∙ turn-before f size moves j w)
+    where
+      go : (b : Bool) → Within size (runReady f ready n (f j .job) .job) × (runReady f ready n (f j .job) .job .before ≡ j .before) → let t = cond b (followed (f j) (runReady f ready n (f j .job))) (record { job = j; text = [] }) in Within size (t .job) × (t .job .before ≡ j .before)
+      go true more = more
+      go false more = (w, refl)

@@ -1,11 +1,13 @@
 // Standard input from its beginning to its end, window by window.
 ghost use mathlib.Core.Path.{_≡_};
-ghost use lib.ListN.{length};
+ghost use Prim.Native.Nat.{_+_, _≤_};
+ghost use lib.ListN.{length, take};
 ghost use Rattle.job_windows.specs.Kinds.{linesOf, maxWindow};
 ghost use Rattle.job_windows.specs.Input.{Open, WindowTaken};
 use crate::window::MAX_WINDOW;
 use job_run::Job;
 use libc::STDERR_FILENO;
+use streams::Filled;
 
 // No input has so many windows: each but the last moves on by half a window at least.
 const MAX_WINDOWS: usize = 4294967296;
@@ -17,12 +19,22 @@ pub struct Next {
     pub failed: bool,
 }
 
+// Standard input after the bytes held, until the buffer is full or the input ends.
+fn fill_after(program: &[u8], buf: &mut [u8], held: usize) -> Filled
+    requires { ⌜ held ≤ length (now buf) ⌝ }
+    ensures keeps { λ _. ⌜ take held (now (buf .exit)) ≡ take held (now (buf .entry)) ⌝ }
+    ensures size { λ _. ⌜ length (now (buf .exit)) ≡ length (now (buf .entry)) ⌝ }
+    ensures fits { λ r. ⌜ held + r .count ≤ length (now (buf .entry)) ⌝ }
+{
+    streams::fill(program, &mut buf[held..])
+}
+
 // The window that begins with the bytes held: filled, its records run, and what is left of it moved down.
 fn take_window(program: &[u8], buf: &mut [u8], held: usize, job: Job, history: bool) -> Next
     requires { ⌜ Open (now buf) held job ⌝ }
     ensures { λ r. ⌜ WindowTaken (linesOf history) held (now (buf .entry)) (now (buf .exit)) job r ⌝ }
 {
-    let more = streams::fill(program, &mut buf[held..]);
+    let more = fill_after(program, buf, held);
     if more.failed {
         return Next {
             job,
