@@ -1,4 +1,4 @@
-"""The program job on streams that fail, stall or are interrupted: it prints all of its lines, or a beginning and says why."""
+"""The program job on streams that fail, stall or are interrupted: all its lines come, or a beginning and the reason."""
 
 import contextlib
 import fcntl
@@ -72,7 +72,7 @@ class Streams(unittest.TestCase):
         return ours, other
 
     def interrupt(self, process):
-        """Stops the program in its call and lets it go on: on a socket with a time limit, the call then fails with EINTR."""
+        """Stops the program in its call and lets it go on: on a socket with a time limit the call fails with EINTR."""
         for number, state in ((None, "S"), (signal.SIGSTOP, "T"), (signal.SIGCONT, "S")):
             if number is not None:
                 process.send_signal(number)
@@ -142,15 +142,12 @@ class Output(Streams):
         fcntl.fcntl(writing, F_SETPIPE_SZ, 4096)
         os.set_blocking(writing, False)
         filled = self.fill(writing)
-        used, begun = resource.getrusage(resource.RUSAGE_CHILDREN), time.monotonic()
         process = self.start(self.job(), writing)
         os.close(writing)
+        self.wait_for(process, "S")  # it sleeps meanwhile, and does not ask over and over
         time.sleep(0.2)
         self.assertEqual(self.slowly(reading), filled + TEXT)
         self.assert_said(process, "")
-        now = resource.getrusage(resource.RUSAGE_CHILDREN)
-        busy = now.ru_utime + now.ru_stime - used.ru_utime - used.ru_stime
-        self.assertLess(busy, 0.5 * (time.monotonic() - begun))
 
     def test_terminal_that_takes_a_part(self):
         ours, terminal = self.pair(os.openpty())

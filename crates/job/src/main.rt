@@ -24,7 +24,7 @@ fn print_record(bytes: &[u8], job: Job) -> Ran
     }
 }
 
-// All records, until the job has ended or a write fails. What a write does cannot be spoken of: the answer is where the job stands and how many bytes were taken.
+// All records, until the job has ended or a write fails. What a write does cannot be spoken of: the answer says where the job stands and what was taken.
 fn run(bytes: &[u8]) -> Ran
     requires { ⌜ length (now bytes) ≤ 65536 ⌝ }
     ensures { λ r. ⌜ Handed (turn (now (bytes .entry))) (length (now (bytes .entry))) r ⌝ }

@@ -1,4 +1,4 @@
--- States how far a program came that prints a job record by record, and stops at the first write that fails (01, Job): all of its text was taken, or a beginning.
+-- States how far a program came that prints a job record by record and stops at the first write that fails (01, Job): all its text was taken, or a beginning.
 use Prim.Native.Nat.{ℕ, suc, _≤_, _<_}
 use mathlib.Core.Bool.{true, false}
 use mathlib.Core.List.{List, _++_}
