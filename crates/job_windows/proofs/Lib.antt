@@ -2,3 +2,4 @@
 pub mod Told
 pub mod Moved
 pub mod Taken
+pub mod Fed

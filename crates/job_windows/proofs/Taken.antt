@@ -82,6 +82,7 @@ module _ (history : Bool) (held count : ℕ) (xs filled : List ℕ) (j : Job) (o
               fits = let o = open-at .0 in omega arith;
               goes = rw (← s) (is-next ∙ ap movedUp (sym (run .goes)));
               stops = rw (← s) (run .whole whole .1);
+              stays = rw (← s) (ap (λ (i : Job). i .before) (run .goes) ∙ ran-within .2);
               within = rw (← s, at-job) (omega arith);
               leaves = rw (← s, at-job) first;
               holds = rw (← s, at-job) (omega arith);
@@ -103,9 +104,8 @@ going-next history before after j held windows r g l t e =
     let start = g .is-open in
     let a = start .2 in
     let c = start .3 in
-    let x = run-within (linesOf history (w .w)) (isReady (w .w) (ltb (length (w .w)) maxWindow)) (length (w .w)) (lines-move history (w .w)) (w .records) j (record { placed = omega arith; counted = omega arith }) in
     let at = w .within in
-    let before′ = x .1 in
+    let before′ = w .stays in
     let size = t .size in
     let whole = start .0 in
     let fits = w .fits in

@@ -6,7 +6,7 @@ use mathlib.Core.List.{List}
 use mathlib.Core.Path.{_≡_}
 use lib.Dec.{ltb}
 use lib.ListN.{length, take, drop}
-use Rattle.job_reader.specs.Windows.{isReady}
+use Rattle.job_reader.specs.Windows.{Window, isReady}
 use Rattle.job_run.specs.declared.Job.{Job}
 use Rattle.job_run.specs.Job.{Turn}
 use Rattle.job_run.specs.Windows.{movedUp, windowTurns, Stops}
@@ -26,6 +26,7 @@ pub record Taken (f : List ℕ → Job → Turn) (held : ℕ) (before after : Li
   pub fits : length w ≤ maxWindow
   pub goes : r .job ≡ movedUp (windowTurns f w (ltb (length w) maxWindow) records j .job)
   pub stops : Stops (isReady w (ltb (length w) maxWindow)) (windowTurns f w (ltb (length w) maxWindow) records j)
+  pub stays : windowTurns f w (ltb (length w) maxWindow) records j .job .before ≡ j .before
   pub within : windowTurns f w (ltb (length w) maxWindow) records j .job .at ≤ length w
   pub leaves : take (r .held) after ≡ drop (windowTurns f w (ltb (length w) maxWindow) records j .job .at) w
   pub holds : r .held ≡ length w - windowTurns f w (ltb (length w) maxWindow) records j .job .at
@@ -34,3 +35,9 @@ pub record Taken (f : List ℕ → Job → Turn) (held : ℕ) (before after : Li
 pub record WindowTaken (f : List ℕ → Job → Turn) (held : ℕ) (before after : List ℕ) (j : Job) (r : Next) : Type 0 where
   pub size : length after ≡ length before
   pub taken : r .failed ≡ false → Taken f held before after j r
+
+-- what the system is taken to do: after the bytes held come the next ones of the input, and a window is left short only where the input ends
+pub record Fed (s : List ℕ) (k held : ℕ) (w : List ℕ) : Type 0 where
+  pub longer : held ≤ length w
+  pub next : Window s (k + held) (drop held w)
+  pub short : ltb (length w) maxWindow ≡ true → k + length w ≡ length s
