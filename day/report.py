@@ -71,4 +71,4 @@ def check_report(report, day, name):
         heaters = len(day.heaters) if step.number == 0 else 0
         full = (step.totals is None) == (step.number != 0) and len(step.layers) == day.tank.layers
         if not full or len(step.heaters) != heaters:
-            raise WrongOutput("%s failed: step %d of %d lacks figures" % (name, step.index, len(day.steps)))
+            raise WrongOutput("%s failed: step %d of %d is not whole" % (name, step.index, len(day.steps)))

@@ -66,4 +66,4 @@ def check_history(history, day):
     check_steps(history, day, "history")
     for step in history.steps:
         if step.number == 0 and sorted(turn.heater for turn in step.turns) != list(range(len(day.heaters))):
-            raise WrongOutput("history failed: step %d of %d lacks turns" % (step.index, len(day.steps)))
+            raise WrongOutput("history failed: step %d of %d is not whole" % (step.index, len(day.steps)))

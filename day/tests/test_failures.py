@@ -30,7 +30,7 @@ def kept(name, count):
 
 # What a program prints, what it says on standard error, what it does last, and the reason that must be given for it.
 NOTHING = "it ended after 10 of 336 steps and says nothing of why"
-LAST = {"job": "step 335 of 336 lacks figures", "history": "step 335 of 336 lacks turns"}
+LAST = "step 335 of 336 is not whole"
 CASES = [
     (lambda name: kept(name, 10), "", "exit 0", NOTHING),
     (lambda name: "", "", "exit 0", NOTHING.replace("10", "0")),
@@ -83,7 +83,6 @@ class Failures(Standing):
         for name in TRUE:
             for at, (printed, said, last, reason) in enumerate(CASES):
                 self.standing(name, printed(name), said, last)
-                reason = reason[name] if isinstance(reason, dict) else reason
                 for words in COMMANDS if name == "job" else COMMANDS[2:]:
                     with self.subTest(name=name, case=at, command=words):
                         status, written, out, told = self.run_command(words)
@@ -91,6 +90,16 @@ class Failures(Standing):
                         self.assertTrue(told.startswith("day %s: %s failed: %s" % (words[0], name, reason)), told)
                         self.assertEqual(told.count("\n"), 1)
             self.standing(name)
+
+    def test_a_step_without_all_its_figures(self):
+        """Its last step lacks its layers, one of them, its totals, or is refused and has heaters all the same."""
+        (step, layers, *heaters), rest = TRUE["job"][-4:], TRUE["job"][:-4]
+        short = layers.rpartition(" ")[0]
+        refused = "S 335 7"
+        for lines in ([step], [step, short], ["S 335 0", layers], [refused, layers], [refused + step[7:], layers]):
+            self.standing("job", text(rest + lines + heaters))
+            told = self.run_command(["run"])
+            self.assertEqual(told, (2, False, "", "day run: job failed: step 335 of 336 is not whole\n"), lines)
 
     def test_run_needs_no_history(self):
         self.standing("history", "", "no room", "exit 3")
