@@ -28,6 +28,9 @@ UTF_16_SENTENCE = " is a text in UTF-16: expected UTF-8, so save it again as UTF
 NEITHER = " is neither a text nor a job: a job begins with the bytes 3c 00 00 00 01 00, and a text "
 GIVEN = [(in_utf_16(codec), COMMANDS, UTF_16_SENTENCE) for codec in UTF_16]
 GIVEN += [(in_utf_16(codec, "# \u0434\u0435\u043d\u044c\n" * 9 + TEXT), COMMANDS, UTF_16_SENTENCE) for codec in UTF_16]
+# Without the word tank, and where only the mark tells.
+GIVEN += [(in_utf_16(codec, "# a day\n"), COMMANDS, UTF_16_SENTENCE) for codec in UTF_16]
+GIVEN += [(in_utf_16(codec, "\u0434\u0435\u043d\u044c"), COMMANDS, UTF_16_SENTENCE) for codec in UTF_16[1::2]]
 GIVEN += [
     (TEXT.encode("utf-32"), COMMANDS, " is a text in UTF-32: expected UTF-8, so save it again as UTF-8"),
     (b"", COMMANDS, " is empty"),

@@ -67,6 +67,9 @@ class StoredJobs(unittest.TestCase):
 
     def check(self, memory, history, heater, index, where):
         """Which reason is given; fails if a fact in it is false."""
+        start = max([here[0] for here in (memory.on, memory.off) if here], default=-1)
+        refused = [step.index for step in history.steps[: index + 1] if step.number and step.index > start]
+        self.assertEqual(memory.refused, refused, where)
         accepted = [step for step in history.steps[: index + 1] if not step.number]
         all_turns = [(step.index, turn) for step in accepted for turn in step.turns if turn.heater == heater]
         if memory.flag:
@@ -82,6 +85,7 @@ class StoredJobs(unittest.TestCase):
             self.assertFalse(any(self.starts(turn) for _, turn in all_turns), where)
             return "never"
         start, turn = memory.off
+        self.assertEqual(memory.since, [here for here in all_turns if here[0] >= start], where)
         self.assertTrue(second_opinion.at_or_under(memory.on[1].begin, memory.on[1].lower), where)
         self.assertLessEqual(memory.on[0], start, where)
         self.assertTrue(turn.upper is None or second_opinion.reached(turn.end, turn.upper), where)
