@@ -1,6 +1,5 @@
 """Numbers and their units in a text. A unit that is not the job's own is converted exactly, and then rounded once."""
 
-import math
 import re
 from decimal import Decimal
 from fractions import Fraction
@@ -66,10 +65,10 @@ def number(word, factor=1):
 
 
 def converted(word, factor):
-    """The division of two whole numbers is rounded once, to the nearest double; a zero keeps its sign."""
+    """The division of two whole numbers is rounded once, to the nearest double, and keeps its sign where that is zero."""
     digits, _, power = word.lower().partition("e")
     far = len(power.lstrip("+-0")) > 9 or abs(int(power or 0)) > len(digits) + 1000
     if far or not digits.strip("+-.0"):
         # No conversion moves a zero, nor brings so large a power of ten back to where doubles are.
         return float(word)
-    return math.copysign(float(Fraction(Decimal(word)) * factor), -1 if word[0] == "-" else 1)
+    return float(Fraction(Decimal(word)) * factor)

@@ -88,9 +88,10 @@ class Said(Slow):
         self.assertIn(b"Refused, steps 0 to 39: refusal 7.", done.stdout)
 
     def test_no_progress_where_it_is_quick(self):
+        programs = self.programs(40, 0.005)
         for _ in range(20):
             began = time.monotonic()
-            done = day_command("run", self.day)
+            done = day_command("run", self.day, "--programs", programs)
             # Another's work may have made it slow.
             if time.monotonic() - began < 1:
                 return self.assertEqual(done.stderr, b"")

@@ -157,6 +157,10 @@ class FirstMinute(Sample):
         self.assertIn("rt ended well, and not all programs are there; " + log, said)
         self.rt()
         self.assertEqual(self.sample()[0], 0)
+        # The programs are there, of another time.
+        self.write("crates/mixing/src/new.rt", "")
+        self.rt(before="echo '%s'; exit 1" % failed)
+        self.assertEqual(self.sample(), (2, "", words))
 
     def test_one_at_a_time(self):
         self.rt(before="touch begun; echo 1 >begun; while [ ! -f go ]; do sleep 0.05; done")

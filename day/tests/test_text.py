@@ -313,6 +313,7 @@ class Units(unittest.TestCase):
         self.assertEqual(bits(self.power("5e-324 W")), bits(0.0))
         self.assertEqual(bits(self.power("5000e-324 W")), bits(5e-324))
         self.assertEqual(bits(self.power("-1e-999999999999 W")), bits(-0.0))
+        self.assertEqual(bits(self.power("-1e-323 W")), bits(-0.0))
         self.assertEqual(bits(self.power("1%se-5000 W" % ("0" * 5000))), bits(0.001))
 
     def test_what_is_written_has_one_unit(self):
