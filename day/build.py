@@ -112,10 +112,12 @@ class Estimate:
         return sum(took for took, _ in seen) / sum(cost for _, cost in seen) if seen else 1
 
     def left(self):
-        """Seconds."""
+        """Seconds. Where the crates of now take longer than was thought, so will those that come."""
         left = [[name for name in batch if name not in self.took] for batch in self.batches]
-        rooms = [max(COSTS.get(name, UNKNOWN) for name in batch) * self.slower() for batch in left if batch]
-        return max(0, rooms[0] - (time.monotonic() - self.since)) + sum(rooms[1:]) if rooms else 0
+        now, *later = [max(COSTS.get(name, UNKNOWN) for name in batch) for batch in left if batch] or [0]
+        waited = time.monotonic() - self.since
+        slower = max(self.slower(), waited / now if now else 0)
+        return now * slower - waited + sum(later) * slower if now else 0
 
     def words(self):
         now = next((batch for batch in self.batches if any(name not in self.took for name in batch)), None)

@@ -59,15 +59,15 @@ def size_of(file):
 
 def pieces_of(file, name):
     size, parts, count = size_of(file), [], 0
-    progress.now("reading %s" % name if size is None else "reading %s: byte" % name, size)
+    progress.now("reading %s: byte" % name, size)
+    if size is None:
+        progress.now_told(lambda: "reading %s: %s bytes so far" % (name, format(count, ",")))
     while True:
         part = file.read1(PIECE)
         if not part:
             return b"".join(parts)
         parts.append(part)
         count += len(part)
-        if size is None:
-            progress.now("reading %s: %s bytes so far" % (name, format(count, ",")))
         progress.at(count)
 
 

@@ -5,6 +5,7 @@ One line that is written anew at a terminal; elsewhere a line now and then, more
 
 import sys
 import threading
+import time
 
 FIRST, AT_A_TERMINAL, ELSEWHERE, SELDOM = 1, 0.2, 5, 30
 
@@ -13,13 +14,13 @@ class Line:
     """A thread shows it, so that it is shown too while a file or a program is waited for."""
 
     def __init__(self):
-        self.what, self.total, self.count = "", None, 0
+        self.what, self.total, self.count, self.since = "", None, 0, 0.0
         self.words = self.counted
         self.ended, self.thread, self.width = threading.Event(), None, 0
 
     def counted(self):
         if self.total is None:
-            return self.what
+            return "%s, for %d s" % (self.what, time.monotonic() - self.since) if self.what else ""
         return "%s %s of %s" % (self.what, format(self.count, ","), format(self.total, ","))
 
     def show(self):
@@ -70,8 +71,8 @@ def over():
 
 
 def now(what, total=None):
-    """What is done from here on: `what COUNT of TOTAL`, or `what` alone."""
-    LINE.what, LINE.total, LINE.count, LINE.words = what, total, 0, LINE.counted
+    """What is done from here on: `what COUNT of TOTAL`, or `what` and since when."""
+    LINE.what, LINE.total, LINE.count, LINE.since, LINE.words = what, total, 0, time.monotonic(), LINE.counted
 
 
 def now_told(words):

@@ -3,6 +3,8 @@
 import struct
 from collections import namedtuple
 
+import progress
+
 Totals = namedtuple("Totals", "energy volume average recoverable")
 Line = namedtuple("Line", "flag adjusted supplied losses rounds")
 # A refused step has no totals (None) and no heater lines; `heaters` has each heater's line by its place in the file.
@@ -24,7 +26,8 @@ def double(digits):
 def read_report(lines, order, name="job"):
     """`order` is the heaters' working order: the lines `H` of a step come so. `name` is the program that printed."""
     steps, ended = [], None
-    for line in lines:
+    for at, line in enumerate(lines):
+        progress.at(at)
         try:
             if ended:
                 raise ValueError(line)

@@ -12,6 +12,7 @@ supplied nothing that can be told (not-a-number). Doubles are 16 hexadecimal dig
 
 from collections import namedtuple
 
+import progress
 from report import WrongOutput, check_steps, double
 
 Turn = namedtuple("Turn", "heater begin end lower upper ran flag supplied rounds")
@@ -51,7 +52,8 @@ def read_line(line, steps):
 
 def read_history(lines):
     steps, ended = [], None
-    for line in lines:
+    for at, line in enumerate(lines):
+        progress.at(at)
         try:
             if ended:
                 raise ValueError(line)

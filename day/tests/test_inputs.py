@@ -9,6 +9,7 @@ from unittest import mock
 
 from common import DAY, ROOT, Folder, Terminal, at_once, day_of, tank
 import inputs
+import progress
 import records
 
 TEXT = "# Ein Tag\n" + tank(layers=1) + "step feed 10 C\n" * 3
@@ -215,10 +216,19 @@ class Progress(Folder):
             path = self.write("given", data)
             with mock.patch("progress.now", lambda *words: seen.append(words)), mock.patch("progress.at") as at:
                 inputs.day_of(path)
-            counts = [call.args[0] for call in at.call_args_list]
+            counts = [call[0][0] for call in at.call_args_list]
             self.assertIn(("reading %s: byte" % path, len(data)), seen)
             self.assertIn(("reading %s: %s" % (path, kind), total), seen)
             self.assertGreater(len([count for count in counts if 0 < count < total]), 900)
+
+    def test_what_has_no_count_says_how_long_it_takes(self):
+        with mock.patch("time.monotonic", return_value=5.0):
+            progress.now("drawing")
+        with mock.patch("time.monotonic", return_value=17.5):
+            self.assertEqual(progress.LINE.words(), "drawing, for 12 s")
+        progress.now("job: step", 17520)
+        progress.at(1234)
+        self.assertEqual(progress.LINE.words(), "job: step 1,234 of 17,520")
 
 
 if __name__ == "__main__":

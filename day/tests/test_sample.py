@@ -263,8 +263,8 @@ class Estimates(unittest.TestCase):
         self.assertEqual(self.left(estimate, 0), 41 + 44 + 6)
         self.assertEqual(self.left(self.estimate(plan, 1), 0), 41 + 44 + 38 + 6)
         self.assertEqual(self.left(estimate, 11), 30 + 44 + 6)
-        # Later than was thought: what comes after is still to come.
-        self.assertEqual(self.left(estimate, 100), 44 + 6)
+        # Twice as long as was thought: what comes after will take twice as long too.
+        self.assertEqual(self.left(estimate, 82), 2 * (44 + 6))
         # Twice as slow as the machine where the costs were measured.
         self.say(estimate, "rt: mixing proved (82 s)", 82)
         self.assertEqual(self.left(estimate, 82), 2 * (44 + 6))
