@@ -3,6 +3,7 @@
 One line that is written anew at a terminal; elsewhere a line now and then, more and more seldom.
 """
 
+import os
 import sys
 import threading
 import time
@@ -29,6 +30,7 @@ class Line:
         while not self.ended.wait(pause):
             words = self.words()
             if words:
+                words = fitted(words) if there else words
                 write("\r" + words.ljust(self.width) if there else words + "\n")
                 self.width = len(words) if there else 0
             pause, later = later, later if there else min(SELDOM, 2 * later)
@@ -48,6 +50,12 @@ class Line:
             if self.width:
                 write("\r" + " " * self.width + "\r")
                 self.width = 0
+
+
+def fitted(words):
+    """The end of it, if a terminal's line cannot hold all: it could not be written anew."""
+    room = os.get_terminal_size(sys.stderr.fileno()).columns or 80
+    return words if len(words) < room else "..." + words[4 - room :]
 
 
 def write(words):

@@ -207,6 +207,18 @@ class Progress(Folder):
         # Written anew, and taken away at the end.
         self.assertEqual(shown.replace(words, b""), b"\r" + b" " * (len(words) - 1) + b"\r")
 
+    def test_a_long_name_stays_on_one_line(self):
+        pipe = self.path("long" * 40)
+        os.mkfifo(pipe)
+        with Terminal() as terminal:
+            process = subprocess.Popen([sys.executable, os.path.join(DAY, "day"), "pack", pipe], stderr=terminal.inner)
+            with open(pipe, "wb"):
+                terminal.until(lambda shown: shown.count(b"\r") > 1)
+            process.wait(30)
+        parts = terminal.shown.split(b"\r")[1:3]
+        self.assertEqual([len(part) for part in parts], [79, 79])
+        self.assertRegex(parts[0], rb"^\.\.\.[long]*: 0 bytes so far$")
+
     def test_lines_and_bytes_are_counted(self):
         """What is shown while a large text or job is read."""
         text = TEXT + "step feed 10 C\n" * 1000
