@@ -57,7 +57,15 @@ class Sample(Folder):
         where = self.path(path) + ":/usr/bin:/bin" if path == "path" else self.path(path)
         environment = dict(os.environ, PATH=where, RT_JOBS="2")
         command = [sys.executable, os.path.join("day", "day"), "sample"]
-        return subprocess.Popen(command, cwd=self.folder, env=environment, **streams)
+        process = subprocess.Popen(command, cwd=self.folder, env=environment, **streams)
+        self.addCleanup(self.end, process)
+        return process
+
+    def end(self, process):
+        """It ends what it started, also where a test fails."""
+        if process.poll() is None:
+            process.terminate()
+            process.wait(10)
 
     def sample(self, path="path"):
         process = self.start(path)
