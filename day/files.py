@@ -1,9 +1,91 @@
-"""Writing whole files: a file appears complete or not at all."""
+"""Reading and writing files: a file appears complete or not at all, and what fails is named as the user named it."""
 
 import errno
 import os
+import stat
 import sys
 import tempfile
+
+import progress
+
+PIECE = 1 << 20
+
+# What the system's commonest errors are, in plain words.
+WORDS = {
+    errno.ENOENT: "there is no such file",
+    errno.EISDIR: "is a folder, not a file",
+    errno.ENOTDIR: "a part of its path is a file, not a folder",
+    errno.EACCES: "there is no permission for it",
+    errno.EPERM: "there is no permission for it",
+    errno.ENOSPC: "no space is left for it",
+    errno.EROFS: "it is on a disk that cannot be written",
+    errno.ENAMETOOLONG: "the name is too long",
+    errno.EBADF: "is closed",
+}
+
+
+class CannotRead(Exception):
+    pass
+
+
+class CannotWrite(Exception):
+    pass
+
+
+def sentence(name, error, deed):
+    """What went wrong with a file that was to be `deed`: read or written."""
+    why = WORDS.get(error.errno) or error.strerror or str(error)
+    if why.startswith("is "):
+        return "%s %s" % (name or "''", why)
+    return "%s cannot be %s: %s" % (name or "''", deed, why)
+
+
+# Reading
+
+
+def name_of(path):
+    """How a message calls what the user gave."""
+    return "standard input" if path == "-" else path
+
+
+def size_of(file):
+    """The bytes to come, or None where that is not known."""
+    try:
+        held = os.fstat(file.fileno())
+    except OSError:
+        return None
+    return held.st_size if stat.S_ISREG(held.st_mode) else None
+
+
+def pieces_of(file, name):
+    size, parts, count = size_of(file), [], 0
+    progress.now("reading %s: byte" % name, size)
+    if size is None:
+        progress.now_told(lambda: "reading %s: %s bytes so far" % (name, format(count, ",")))
+    while True:
+        part = file.read1(PIECE)
+        if not part:
+            return b"".join(parts)
+        parts.append(part)
+        count += len(part)
+        progress.at(count)
+
+
+def get(path):
+    """The bytes of the named file, or of standard input."""
+    name = name_of(path)
+    try:
+        if path == "-":
+            if sys.stdin is None:
+                raise OSError(errno.EBADF, None)
+            return pieces_of(sys.stdin.buffer, name)
+        with open(path, "rb") as file:
+            return pieces_of(file, name)
+    except OSError as error:
+        raise CannotRead(sentence(name, error, "read")) from None
+
+
+# Writing
 
 
 def write_whole(path, data):
@@ -16,7 +98,7 @@ def write_whole(path, data):
     path = os.path.realpath(path)
     folder = os.path.dirname(path)
     if not os.path.isdir(folder):
-        raise FileNotFoundError(errno.ENOENT, "there is no such folder", folder)
+        raise CannotWrite("%s: there is no such folder" % folder)
     handle, beside = tempfile.mkstemp(prefix=".", suffix=".part", dir=folder)
     try:
         with os.fdopen(handle, "wb") as file:
@@ -42,9 +124,19 @@ def new_mode(path):
 
 def put(path, data):
     """To the named file, or to standard output if none is named."""
-    if path is None:
-        sys.stdout.flush()
-        sys.stdout.buffer.write(data)
-        sys.stdout.buffer.flush()
-    else:
-        write_whole(path, data)
+    name = "standard output" if path is None else path
+    try:
+        if path is None:
+            progress.over()
+            if sys.stdout is None:
+                raise OSError(errno.EBADF, None)
+            sys.stdout.flush()
+            sys.stdout.buffer.write(data)
+            sys.stdout.buffer.flush()
+        else:
+            write_whole(path, data)
+            progress.over()
+    except BrokenPipeError:
+        raise
+    except OSError as error:
+        raise CannotWrite(sentence(name, error, "written")) from None

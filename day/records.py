@@ -3,6 +3,8 @@
 import struct
 from collections import namedtuple
 
+import progress
+
 Tank = namedtuple("Tank", "layers volume standby initial density specific_heat ambient step_length")
 Heater = namedtuple("Heater", "rated position thermostat")  # thermostat: None where it has no position of its own
 Step = namedtuple("Step", "feed volumes points")  # points: (lower, upper) for each heater, None where absent
@@ -179,6 +181,7 @@ def read_job(data):
     tank, heaters, steps, lost = None, [], [], Lost()
     at = 0
     while at < len(data) or tank is None:
+        progress.at(at)
         kind, body = body_at(data, at)
         if kind not in (1, 2, 3):
             raise Malformed(at, "unknown kind %d: 1 is a tank, 2 a heater, 3 a step" % kind)

@@ -3,6 +3,8 @@
 import struct
 from collections import namedtuple
 
+import progress
+
 Totals = namedtuple("Totals", "energy volume average recoverable")
 Line = namedtuple("Line", "flag adjusted supplied losses rounds")
 # A refused step has no totals (None) and no heater lines; `heaters` has each heater's line by its place in the file.
@@ -21,14 +23,17 @@ def double(digits):
     return struct.unpack(">d", bytes.fromhex(digits))[0]
 
 
-def read_report(lines, order):
-    """`order` is the heaters' working order: the lines `H` of a step come so."""
+def read_report(lines, order, name="job"):
+    """`order` is the heaters' working order: the lines `H` of a step come so. `name` is the program that printed."""
     steps, ended = [], None
-    for line in lines:
+    for at, line in enumerate(lines):
+        progress.at(at)
         try:
-            ended = read_line(line, steps, order) or ended
+            if ended:
+                raise ValueError(line)
+            ended = read_line(line, steps, order)
         except (ValueError, IndexError, TypeError):
-            raise WrongOutput("job: a line that cannot be read: '%s'" % line) from None
+            raise WrongOutput("%s: a line that cannot be read: '%s'" % (name, line)) from None
     return Report(steps, ended)
 
 
@@ -48,3 +53,25 @@ def read_line(line, steps, order):
     else:
         raise ValueError(kind)
     return None
+
+
+def check_steps(told, day, name):
+    """What a program told, held to the day: its steps in order and no others; all of them, or a reason why not."""
+    for place, step in enumerate(told.steps):
+        if step.index != place:
+            raise WrongOutput("%s failed: step %d stands where step %d is due" % (name, step.index, place))
+    count, due = len(told.steps), len(day.steps)
+    if count > due:
+        raise WrongOutput("%s failed: it tells of %d steps, and the day has %d" % (name, count, due))
+    if count < due and told.ended is None:
+        raise WrongOutput("%s failed: it ended after %d of %d steps and says nothing of why" % (name, count, due))
+
+
+def check_report(report, day, name):
+    """Each step has all its figures."""
+    check_steps(report, day, name)
+    for step in report.steps:
+        heaters = len(day.heaters) if step.number == 0 else 0
+        full = (step.totals is None) == (step.number != 0) and len(step.layers) == day.tank.layers
+        if not full or len(step.heaters) != heaters:
+            raise WrongOutput("%s failed: step %d of %d is not whole" % (name, step.index, len(day.steps)))

@@ -4,7 +4,8 @@ import csv
 import io
 import textwrap
 
-from records import BYTES_READ, job_bytes, record_at
+import clock
+from records import record_at
 from refusals import words
 from text import decimal
 
@@ -30,10 +31,6 @@ def energy(value):
     return rounded(value, 4)
 
 
-def hour(index, day):
-    return "%g" % (index * day.tank.step_length)
-
-
 def layer_names(count):
     """From the top down; layer 0 is the bottom."""
     names = ["L%d" % layer for layer in reversed(range(count))]
@@ -48,9 +45,10 @@ def layer_names(count):
 def lay_out(groups, spans=None):
     """The lines of a table. `spans` says where one text takes the place of a group's cells: (row, group) to text."""
     widths = [[max(map(len, [heading, unit] + cells)) for heading, unit, cells in columns] for _, columns in groups]
-    inner, outer = 2, 3
-    if sum(map(sum, widths)) + inner * sum(len(group) - 1 for group in widths) + outer * (len(groups) - 1) > WIDE:
-        inner, outer = 1, 2
+    for inner, outer in ((2, 3), (2, 2), (1, 2)):
+        between = inner * sum(len(group) - 1 for group in widths) + outer * (len(groups) - 1)
+        if sum(map(sum, widths)) + between <= WIDE:
+            break
 
     def joined(pieces):
         """Each group's text, filled up to the group's width."""
@@ -72,7 +70,8 @@ def lay_out(groups, spans=None):
 def steps_table(day, report):
     steps = report.steps
     begin = [("step", "", ["%d" % step.index for step in steps])]
-    begin.append(("hour", "", [hour(step.index, day) for step in steps]))
+    length = day.tank.step_length
+    begin.append((clock.heading(length), "", [clock.begin(step.index, length) for step in steps]))
     totals = []
     for name, heading, unit, show in (
         ("energy", "energy", "kWh", energy),
@@ -155,20 +154,15 @@ def refused_words(report):
 
 
 def ended_words(day, report):
-    """Why not every step was run, if so: a refusal outside a step, or more bytes than the program reads."""
-    parts = []
-    if report.ended:
-        number, offset = report.ended
-        index = record_at(day, offset)
-        where = "byte %d" % offset
-        if day.lines and index is not None:
-            where = "line %d (byte %d of its job)" % (day.lines[index], offset)
-        parts.append("The job ended at %s: refusal %d. %s" % (where, number, words(number)))
-    length = len(job_bytes(day))
-    if len(report.steps) < len(day.steps) and length > BYTES_READ:
-        missing = "the steps from %d on were not run" % len(report.steps)
-        parts.append("The job has %d bytes and the program reads the first %d: %s." % (length, BYTES_READ, missing))
-    return " ".join(parts)
+    """Why not every step was run, if so: a refusal outside a step."""
+    if not report.ended:
+        return ""
+    number, offset = report.ended
+    index = record_at(day, offset)
+    where = "byte %d" % offset
+    if day.lines and index is not None:
+        where = "line %d (byte %d of its job)" % (day.lines[index], offset)
+    return "The job ended at %s: refusal %d. %s" % (where, number, words(number))
 
 
 def table(day, report, name):
@@ -176,7 +170,8 @@ def table(day, report, name):
     for place, heater in enumerate(day.heaters):
         lines.append("  h%d: %s" % (place, heater_words(heater)))
     if report.steps:
-        lines += ["", "After each step (hour: where it begins; flags and heaters in working order):", ""]
+        when = clock.heading(day.tank.step_length)
+        lines += ["", "After each step (%s: where it begins; flags and heaters in working order):" % when, ""]
         lines += steps_table(day, report)
         refused = refused_words(report)
         lines += [""] + refused if refused else []
@@ -198,7 +193,8 @@ def comma_separated(day, report):
     totals = ["energy kWh", "volume litres", "average C", "recoverable kWh"]
     figures = ["flag", "adjusted kWh", "supplied kWh", "losses kWh", "rounds"]
     heading = ["step", "hour", "refusal", "refusal in words"] + totals + ["layer %d C" % layer for layer in layers]
-    rows.writerow(heading + ["heater %d %s" % (place, figure) for place in order for figure in figures])
+    heading += ["heater %d %s" % (place, figure) for place in order for figure in figures]
+    rows.writerow(heading + ["clock"])
     for step in report.steps:
         row = ["%d" % step.index, decimal(step.index * day.tank.step_length), "%d" % step.number]
         row.append(words(step.number) if step.number else "")
@@ -210,5 +206,5 @@ def comma_separated(day, report):
                 row += ["%d" % flag, decimal(adjusted), decimal(supplied), decimal(losses), "%d" % rounds]
             else:
                 row += [""] * 5
-        rows.writerow(row)
+        rows.writerow(row + [clock.on_the_clock(step.index, day.tank.step_length) or ""])
     return out.getvalue()

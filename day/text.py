@@ -2,7 +2,9 @@
 
 import re
 
+import progress
 from records import Day, Heater, Step, Tank
+from units import Unfit, form, number, take_unit
 
 TANK_FIELDS = [
     ("layers", None),
@@ -18,31 +20,18 @@ HEATER_FIELDS = [("rated power", "kW"), ("position", "of height"), ("thermostat"
 STEP_FIELDS = [("feed", "C"), ("draws", "litres")]
 MOST = 65535  # a job has two bytes for the number of layers, and of draws
 
-NUMBER = re.compile(r"[+-]?([0-9]+(\.[0-9]*)?|\.[0-9]+)([eE][+-]?[0-9]+)?|[+-]?inf|nan", re.IGNORECASE)
 WHOLE = re.compile(r"[0-9]{1,9}")
 
 
 class WrongLine(Exception):
-    def __init__(self, number, what):
-        super().__init__("line %d: %s" % (number, what))
-        self.number = number
+    """The lines that are wrong: (number, what), the first of them in `number` and in the words."""
 
-
-class Unfit(Exception):
-    """What is wrong with a line, before its number is known."""
+    def __init__(self, found):
+        super().__init__("line %d: %s" % found[0])
+        self.found, self.number = found, found[0][0]
 
 
 # Numbers
-
-
-def number(word):
-    """The double nearest to a decimal."""
-    if not NUMBER.fullmatch(word):
-        raise Unfit("expected a number such as 12.5, -3, 1e-3, nan, inf or -inf, found '%s'" % word)
-    value = float(word)
-    if abs(value) == float("inf") and "inf" not in word.lower():
-        raise Unfit("expected a number that a double can hold, found '%s'; infinity is written inf" % word)
-    return value
 
 
 def whole(word, name, most):
@@ -60,29 +49,24 @@ def decimal(value):
 # One field: a name, a number and its unit
 
 
-def form(name, unit):
-    if name == "layers":
-        return "layers WHOLE-NUMBER"
-    return "%s NUMBER%s %s" % (name, " NUMBER ..." if name == "draws" else "", unit)
-
-
 def begins(words, name):
     return words[: len(name.split())] == name.split()
 
 
-def field_words(part, name, unit):
-    """The words between a field's name and its unit."""
-    words, unit_words = part.split()[len(name.split()) :], (unit or "").split()
-    if unit_words and words[-len(unit_words) :] != unit_words:
+def values(part, name, unit):
+    """The numbers between a field's name and its unit."""
+    taken = take_unit(part.split()[len(name.split()) :], unit)
+    if taken is None:
         raise Unfit("expected '%s', found '%s'" % (form(name, unit), part))
-    return words[: len(words) - len(unit_words)]
+    words, factor = taken
+    return [number(word, factor) for word in words]
 
 
-def one_word(part, name, unit):
-    words = field_words(part, name, unit)
-    if len(words) != 1:
+def value(part, name, unit):
+    found = values(part, name, unit)
+    if len(found) != 1:
         raise Unfit("expected '%s', found '%s'" % (form(name, unit), part))
-    return words[0]
+    return found[0]
 
 
 def fields_of(kind, rest, fields, free=""):
@@ -107,24 +91,30 @@ def needed(kind, found, fields, name):
     unit = dict(fields)[name]
     if name not in found:
         raise Unfit("expected '%s' on a %s line" % (form(name, unit), kind))
-    return one_word(found[name], name, unit)
+    return value(found[name], name, unit)
 
 
 # The three kinds of line
 
 
+def read_layers(found):
+    words = found["layers"].split() if "layers" in found else []
+    if len(words) != 2:
+        there = "found '%s'" % found["layers"] if words else "on a tank line"
+        raise Unfit("expected '%s'%s %s" % (form("layers", None), "," if words else "", there))
+    return whole(words[1], "layers", MOST)
+
+
 def read_tank(rest):
     found, _ = fields_of("tank", rest, TANK_FIELDS)
-    values = [needed("tank", found, TANK_FIELDS, name) for name, _ in TANK_FIELDS]
-    return Tank(whole(values[0], "layers", MOST), *(number(word) for word in values[1:]))
+    layers = read_layers(found)
+    return Tank(layers, *(needed("tank", found, TANK_FIELDS, name) for name, _ in TANK_FIELDS[1:]))
 
 
 def read_heater(rest):
     found, _ = fields_of("heater", rest, HEATER_FIELDS)
-    rated, position = (number(needed("heater", found, HEATER_FIELDS, name)) for name in ("rated power", "position"))
-    thermostat = None
-    if "thermostat" in found:
-        thermostat = number(needed("heater", found, HEATER_FIELDS, "thermostat"))
+    rated, position = (needed("heater", found, HEATER_FIELDS, name) for name in ("rated power", "position"))
+    thermostat = needed("heater", found, HEATER_FIELDS, "thermostat") if "thermostat" in found else None
     return Heater(rated, position, thermostat)
 
 
@@ -134,30 +124,33 @@ def points_form(place):
 
 
 def read_points(part, heaters):
-    """The heater's place and its set points: `heater 0 lower 50 C upper 60 C`."""
+    """The heater's place and its set points, in either order: `heater 0 lower 50 C upper 60 C`."""
     words = part.split()
-    if len(words) < 2 or not WHOLE.fullmatch(words[1]) or int(words[1]) >= heaters:
+    if len(words) < 2 or not WHOLE.fullmatch(words[1]) or heaters is not None and int(words[1]) >= heaters:
         there = "heater 0 to %d" % (heaters - 1) if heaters else "no heater, for no heater line stands before"
-        raise Unfit("expected %s, found '%s'" % (there, part))
-    points, rest = {}, words[2:]
+        raise Unfit("expected %s, found '%s'" % (there if heaters is not None else "the number of a heater", part))
+    place, rest = int(words[1]), words[2:]
     if rest == ["none"]:
-        rest = []
-    elif not rest:
-        raise Unfit("expected %s, found '%s'" % (points_form(words[1]), part))
-    for name in ("lower", "upper"):
-        if rest[:1] == [name] and len(rest) >= 3 and rest[2] == "C":
-            points[name], rest = number(rest[1]), rest[3:]
-    if rest:
-        raise Unfit("expected %s, found '%s'" % (points_form(words[1]), part))
-    return int(words[1]), (points.get("lower"), points.get("upper"))
+        return place, (None, None)
+    starts = [at for at, word in enumerate(rest) if word in ("lower", "upper")]
+    points = {}
+    if starts[:1] != [0]:
+        raise Unfit("expected %s, found '%s'" % (points_form(place), part))
+    for start, end in zip(starts, starts[1:] + [len(rest)]):
+        words, factor = take_unit(rest[start + 1 : end], "C") or ([], 1)
+        if len(words) != 1 or rest[start] in points:
+            raise Unfit("expected %s, found '%s'" % (points_form(place), part))
+        points[rest[start]] = number(words[0], factor)
+    return place, (points.get("lower"), points.get("upper"))
 
 
 def read_step(rest, heaters):
+    """`heaters` is how many there are, or None where a wrong line before leaves that open."""
     found, others = fields_of("step", rest, STEP_FIELDS, "heater")
-    feed = number(needed("step", found, STEP_FIELDS, "feed"))
+    feed = needed("step", found, STEP_FIELDS, "feed")
     volumes = []
     if "draws" in found:
-        volumes = [number(word) for word in field_words(found["draws"], "draws", "litres")]
+        volumes = values(found["draws"], "draws", "litres")
         if not 1 <= len(volumes) <= MOST:
             raise Unfit("expected '%s' with 1 to %d numbers, found %d" % (form("draws", "litres"), MOST, len(volumes)))
     points = {}
@@ -166,49 +159,77 @@ def read_step(rest, heaters):
         if place in points:
             raise Unfit("expected 'heater %d' once on a step line, found it twice" % place)
         points[place] = pair
-    for place in range(heaters):
+    for place in range(heaters or 0):
         if place not in points:
             raise Unfit("expected set points for each heater; for heater %d: %s" % (place, points_form(place)))
-    return Step(feed, volumes, [points[place] for place in range(heaters)])
+    return Step(feed, volumes, [points[place] for place in range(heaters or 0)])
 
 
 # The whole text
 
 
-def read_text(data):
-    """The day that the bytes of a text hold; WrongLine names the first line that is not one."""
-    tank, heaters, steps, places, title = None, [], [], [], None
-    lines = data.split(b"\n")
-    for at, raw in enumerate(lines, 1):
+class Lines:
+    """What the lines of a text came to so far; the wrong ones are kept, so that all can be told."""
+
+    def __init__(self):
+        self.tank, self.title = None, None
+        self.heaters, self.steps, self.places, self.wrong = [], [], [], []
+        self.tanks, self.missed, self.stepped, self.sure = 0, False, False, True
+
+    def count(self, kind):
+        """What later lines are judged by, whatever else is wrong with this one."""
+        self.tanks += kind == "tank"
+        self.stepped = self.stepped or kind == "step"
+        if kind == "heater" and not self.stepped:
+            self.heaters.append(None)
+        elif kind not in ("tank", "step"):
+            # A heater's line that stands too late, or one that may have been meant for a heater's.
+            self.sure = self.sure and self.stepped and kind != "heater"
+
+    def take(self, at, plain):
+        kind, _, rest = " ".join(plain.split()).partition(" ")
+        self.count(kind)
+        if kind not in ("tank", "heater", "step"):
+            raise Unfit("expected a line that begins with tank, heater or step, found '%s'" % kind)
+        if self.tanks > 1 and kind == "tank" or not (self.tanks or self.missed):
+            self.missed = True
+            raise Unfit("expected one tank line, and before all others")
+        if kind == "heater" and self.stepped:
+            raise Unfit("expected all heater lines before the first step line")
+        self.places.append(at)
+        if kind == "tank":
+            self.tank = read_tank(rest)
+        elif kind == "heater":
+            self.heaters[-1] = read_heater(rest)
+        else:
+            self.steps.append(read_step(rest, len(self.heaters) if self.sure else None))
+
+    def line(self, at, raw):
         try:
             line = raw.decode("utf-8-sig" if at == 1 else "utf-8").strip()
-        except UnicodeDecodeError:
-            raise WrongLine(at, "expected text in UTF-8") from None
+        except UnicodeDecodeError as error:
+            raise Unfit("expected text in UTF-8, found the byte %02x" % raw[error.start]) from None
         plain, _, comment = line.partition("#")
-        if title is None and not plain and comment.strip() and tank is None:
-            title = comment.strip()
-        if not plain.strip():
-            continue
-        kind, _, rest = " ".join(plain.split()).partition(" ")
+        if self.title is None and not plain and comment.strip() and not self.tanks:
+            self.title = comment.strip()
+        if plain.strip():
+            self.take(at, plain)
+
+
+def read_text(data):
+    """The day that the bytes of a text hold; WrongLine has the lines that are not of one."""
+    lines, found = Lines(), data.split(b"\n")
+    for at, raw in enumerate(found, 1):
+        progress.at(at)
         try:
-            if kind not in ("tank", "heater", "step"):
-                raise Unfit("expected a line that begins with tank, heater or step, found '%s'" % kind)
-            if (kind == "tank") != (tank is None):
-                raise Unfit("expected one tank line, and before all others")
-            if kind == "tank":
-                tank = read_tank(rest)
-            elif kind == "step":
-                steps.append(read_step(rest, len(heaters)))
-            elif steps:
-                raise Unfit("expected all heater lines before the first step line")
-            else:
-                heaters.append(read_heater(rest))
+            lines.line(at, raw)
         except Unfit as unfit:
-            raise WrongLine(at, str(unfit)) from None
-        places.append(at)
-    if tank is None:
-        raise WrongLine(len(lines), "expected a tank line, found the end")
-    return Day(tank, heaters, steps, places, title)
+            lines.wrong.append((at, str(unfit)))
+    if not lines.wrong and lines.tank is None:
+        lines.wrong.append((len(found), "expected a tank line, found the end"))
+    if lines.wrong:
+        raise WrongLine(lines.wrong)
+    return Day(lines.tank, lines.heaters, lines.steps, lines.places, lines.title)
 
 
 def tank_line(tank):

@@ -1,8 +1,8 @@
 """The lines that the program history prints, as numbers. This is the only place that knows their form.
 
-    S index number                                             before the turns of each step; number 0: accepted
-    T heater begin end lower upper ran flag supplied rounds    a turn, in working order, refused steps as far as they got
-    E number offset                                            a refusal outside a step
+    S index number                                            before the turns of each step; number 0: accepted
+    T heater begin end lower upper ran flag supplied rounds   a turn, in working order, refused steps as far as they got
+    E number offset                                           a refusal outside a step
 
 `heater` is its place in the file; `begin` and `end` are the temperature of its thermostat layer where its turn began
 and where it ended; a set point that is not there is `-`; `ran` is the flag after the switch-on, `flag` that at the
@@ -12,7 +12,8 @@ supplied nothing that can be told (not-a-number). Doubles are 16 hexadecimal dig
 
 from collections import namedtuple
 
-from report import WrongOutput, double
+import progress
+from report import WrongOutput, check_steps, double
 
 Turn = namedtuple("Turn", "heater begin end lower upper ran flag supplied rounds")
 StepTurns = namedtuple("StepTurns", "index number turns")
@@ -51,9 +52,20 @@ def read_line(line, steps):
 
 def read_history(lines):
     steps, ended = [], None
-    for line in lines:
+    for at, line in enumerate(lines):
+        progress.at(at)
         try:
-            ended = read_line(line, steps) or ended
+            if ended:
+                raise ValueError(line)
+            ended = read_line(line, steps)
         except (ValueError, IndexError, KeyError):
             raise WrongOutput("history: a line that cannot be read: '%s'" % line) from None
     return History(steps, ended)
+
+
+def check_history(history, day):
+    """An accepted step has a turn of each heater."""
+    check_steps(history, day, "history")
+    for step in history.steps:
+        if step.number == 0 and sorted(turn.heater for turn in step.turns) != list(range(len(day.heaters))):
+            raise WrongOutput("history failed: step %d of %d is not whole" % (step.index, len(day.steps)))

@@ -4,36 +4,63 @@ Only accepted steps count. A flag comes on where a turn runs on that began with 
 then at or under the lower set point. It goes off where a turn ends with the upper set point missing or reached.
 """
 
-from collections import namedtuple
+import itertools
 
+from clock import begin_words
 from refusals import words
 from report import WrongOutput
-from table import degrees, hour, numbers, wrapped
+from table import degrees, numbers, wrapped
 from text import decimal
 
-# `on`, `off`: the step and the turn where the flag last came on and last went off, or None; `since`: the accepted turns
-# from the later of the two to the last, that one included; `refused`: the refused steps among them.
-Memory = namedtuple("Memory", "flag on off since refused")
+
+class Memory:
+    """What a flag remembers after a step.
+
+    `on`, `off`: the step and the turn where the flag last came on and last went off, or None; `since`: the accepted
+    turns from the later of the two to the last, that one included; `refused`: the refused steps among them. The two
+    lists are pieces of lists that all memories of a walk share: a copy for each step would grow with its square.
+    """
+
+    def __init__(self, flag, on, off, turns, refused):
+        self.flag, self.on, self.off = flag, on, off
+        self.turns, self.dropped = turns, refused
+
+    @property
+    def since(self):
+        return piece(*self.turns)
+
+    @property
+    def refused(self):
+        return piece(*self.dropped)
+
+
+def piece(whole, first, end):
+    return whole[first:end]
 
 
 def walk(history, heater):
     """The memory of a heater's flag after each step."""
-    flag, on, off, since, refused = False, None, None, [], []
+    flag, on, off = False, None, None
+    turns, refused, first, first_refused = [], [], 0, 0
     for step in history.steps:
         if step.number:
-            refused = refused + [step.index]
+            refused.append(step.index)
         else:
             turn = next((turn for turn in step.turns if turn.heater == heater), None)
             if turn is None:
                 raise WrongOutput("history: step %d was accepted and has no turn of heater %d" % (step.index, heater))
             here = (step.index, turn)
             if turn.ran and not flag:
-                on, since, refused = here, [], []
+                on, first, first_refused = here, len(turns), len(refused)
             if (turn.ran or flag) and not turn.flag:
-                off, since, refused = here, [], []
+                off, first, first_refused = here, len(turns), len(refused)
             flag = turn.flag
-            since = since + [here]
-        yield Memory(flag, on, off, since, refused)
+            turns.append(here)
+        yield Memory(flag, on, off, (turns, first, len(turns)), (refused, first_refused, len(refused)))
+
+
+def memory_after(history, heater, last):
+    return next(itertools.islice(walk(history, heater), last, None))
 
 
 def check_agrees(history, report):
@@ -50,7 +77,7 @@ def check_agrees(history, report):
 
 
 def step_words(index, day):
-    return "step %d (hour %s)" % (index, hour(index, day))
+    return "step %d (%s)" % (index, begin_words(index, day.tank.step_length))
 
 
 def beside(temperature, point):
@@ -60,10 +87,13 @@ def beside(temperature, point):
     return degrees(temperature)
 
 
-def came_on(memory, day, verb):
+def came_on(memory, day, came, been):
+    """`came` and `been` are the verb: a flag that came on in step 0 has been on from the beginning."""
     index, turn = memory.on
-    begin = beside(turn.begin, turn.lower)
-    told = "%s in %s: its turn began with its thermostat layer at %s C," % (verb, step_words(index, day), begin)
+    start = "%s in %s: its turn" % (came, step_words(index, day))
+    if index == 0:
+        start = "%s on from the beginning: in %s its turn" % (been, step_words(index, day))
+    told = "%s began with its thermostat layer at %s C," % (start, beside(turn.begin, turn.lower))
     return "%s at or under the lower set point of %s C." % (told, decimal(turn.lower))
 
 
@@ -97,17 +127,19 @@ def stays_on(memory):
 def explained(place, memory, day, last):
     lines = ["h%d is %s." % (place, "on" if memory.flag else "off")]
     if memory.flag:
-        lines.append(came_on(memory, day, "It came on") + ago(memory.on[0], day, last))
+        lines.append(came_on(memory, day, "It came on", "It has been") + ago(memory.on[0], day, last))
         lines.append(stays_on(memory))
     elif memory.off:
         lines.append(went_off(memory, day) + ago(memory.off[0], day, last))
-        lines.append(came_on(memory, day, "It had come on"))
+        lines.append(came_on(memory, day, "It had come on", "It had been"))
         later = [here for here in memory.since if here[0] > memory.off[0]]
         if later:
             lines.append("In no accepted step since did its turn begin at or under a lower set point." + nearest(later))
+    elif memory.since:
+        never = "in no accepted step did its turn begin at or under a lower set point."
+        lines.append("It has been off from the beginning: %s%s" % (never, nearest(memory.since)))
     else:
-        never = "It was never on: in no accepted step did its turn begin at or under a lower set point."
-        lines.append(never + nearest(memory.since))
+        lines.append("It has been off from the beginning: no step was accepted.")
     if memory.refused:
         plural = "s" if len(memory.refused) > 1 else ""
         meanwhile = "Refused meanwhile" if memory.on else "Refused"
@@ -132,8 +164,7 @@ def why(day, history, last):
     if not day.heaters:
         lines += ["", "The tank has no heaters."]
     for place in range(len(day.heaters)):
-        memory = list(walk(history, place))[last]
-        first, *rest = explained(place, memory, day, last)
+        first, *rest = explained(place, memory_after(history, place, last), day, last)
         lines += ["", first]
         for told in rest:
             lines += wrapped(told, "  ")

@@ -1,9 +1,18 @@
-"""What the tests share: where things are, the stored jobs, running a command."""
+"""What the tests share: where things are, the stored jobs, running a command, stand-ins for programs."""
 
+import importlib.machinery
+import importlib.util
+import io
 import os
+import pty
+import select
 import struct
 import subprocess
 import sys
+import tempfile
+import time
+import unittest
+from unittest import mock
 
 TESTS = os.path.dirname(os.path.abspath(__file__))
 DAY = os.path.dirname(TESTS)
@@ -43,6 +52,80 @@ def day_command(*words, **options):
     return subprocess.run(command, cwd=ROOT, stdout=subprocess.PIPE, stderr=subprocess.PIPE, **options)
 
 
+def loaded():
+    """The command as a module, whose main() can be called."""
+    loader = importlib.machinery.SourceFileLoader("day_command", os.path.join(DAY, "day"))
+    module = importlib.util.module_from_spec(importlib.util.spec_from_loader("day_command", loader))
+    loader.exec_module(module)
+    return module
+
+
+def at_once(*words, given=b""):
+    """Runs the command in this process, which is quicker; answers as day_command does."""
+    out, said = (io.TextIOWrapper(io.BytesIO(), encoding="utf-8") for _ in range(2))
+    streams = dict(stdin=io.TextIOWrapper(io.BytesIO(given)), stdout=out, stderr=said, argv=["day/day"] + list(words))
+    with mock.patch.multiple(sys, **streams), mock.patch("signal.signal"):
+        status = COMMAND.main()
+    for stream in (out, said):
+        stream.flush()
+    return subprocess.CompletedProcess(words, status, out.buffer.getvalue(), said.buffer.getvalue())
+
+
+class Folder(unittest.TestCase):
+    """A folder of its own for each test."""
+
+    def setUp(self):
+        held = tempfile.TemporaryDirectory()
+        self.addCleanup(held.cleanup)
+        self.folder = held.name
+
+    def path(self, name):
+        return os.path.join(self.folder, name)
+
+    def write(self, name, data, mode=None):
+        path = self.path(name)
+        os.makedirs(os.path.dirname(path), exist_ok=True)
+        if os.path.islink(path):
+            os.unlink(path)
+        with open(path, "wb") as file:
+            file.write(data.encode() if isinstance(data, str) else data)
+        if mode is not None:
+            os.chmod(path, mode)
+        return path
+
+    def program(self, name, script):
+        """A stand-in for a program, in a folder `bin`; the answer is that folder."""
+        return os.path.dirname(self.write(os.path.join("bin", name), script, 0o755))
+
+    def read(self, path):
+        with open(path, "rb") as file:
+            return file.read()
+
+    def files(self):
+        return sorted(name for name in os.listdir(self.folder) if name != "bin")
+
+
+class Terminal:
+    """A terminal of our own: `inner` is what a program writes to, until() what it wrote."""
+
+    def __enter__(self):
+        self.outer, self.inner = pty.openpty()
+        self.shown = b""
+        return self
+
+    def __exit__(self, *_):
+        os.close(self.outer)
+        os.close(self.inner)
+
+    def until(self, enough, seconds=30):
+        """What was written so far, as soon as it is enough."""
+        end = time.monotonic() + seconds
+        while not enough(self.shown) and time.monotonic() < end:
+            if select.select([self.outer], [], [], 0.05)[0]:
+                self.shown += os.read(self.outer, 1 << 16)
+        return self.shown
+
+
 def bits(value):
     return struct.pack(">d", value).hex()
 
@@ -59,3 +142,6 @@ def tank(layers=4, initial=55, length=1):
 
 def day_of(lines):
     return text.read_text(lines.encode())
+
+
+COMMAND = loaded()

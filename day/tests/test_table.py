@@ -109,20 +109,20 @@ class Table(unittest.TestCase):
         self.assertLessEqual(max(map(len, self.lines)), 80)
 
     def test_columns_line_up(self):
-        for heading in (["step", "hour"], ["step", "adjusted"]):
+        for heading in (["step", "clock"], ["step", "adjusted"]):
             rows = [row for row in self.rows(heading) if "refused" not in row]
             ends = [[match.end() for match in re.finditer(r"\S+", row)] for row in rows]
             self.assertGreater(len(ends), 1)
             self.assertEqual(ends, [ends[0]] * len(ends))
         # A refused step has its layers in the same columns.
-        accepted, refused = self.rows(["step", "hour"])[:2]
+        accepted, refused = self.rows(["step", "clock"])[:2]
         layers = [match.end() for match in re.finditer(r"\S+", accepted)][6:10]
         self.assertEqual([match.end() for match in re.finditer(r"\S+", refused)][4:], layers)
 
     def test_figures(self):
         """Each number is the program's, rounded; heater 1, which sits lower, comes first."""
         accepted = [step for step in self.report.steps if step.totals]
-        for row, step in zip((row for row in self.rows(["step", "hour"]) if "refused" not in row), accepted):
+        for row, step in zip((row for row in self.rows(["step", "clock"]) if "refused" not in row), accepted):
             words = row.split()
             shown = [float(word) for word in words[2:10]]
             values, rooms = list(step.totals) + step.layers[::-1], [5e-5, 5e-3, 5e-3, 5e-5] + [5e-3] * 4
@@ -196,16 +196,6 @@ class Refused(unittest.TestCase):
             shown = " ".join(table.table(day, result, "a.day").split())
             where = "line %d (byte %d of its job)" % (line, result.ended[1])
             self.assertIn("The job ended at %s: refusal %d. %s" % (where, number, refusals.WORDS[number]), shown)
-
-    def test_past_what_the_program_reads(self):
-        """64 bytes of tank and 16 a step: the limit falls between two steps, or with one draw more into a step."""
-        for draw, ended in (("", None), (", draws 1 litres", (11, 64 + 24 + 16 * 4090))):
-            day, result, _ = told(tank() + "step feed 10 C%s\n" % draw + "step feed 10 C\n" * 4199)
-            self.assertEqual(result.ended, ended)
-            shown = " ".join(table.table(day, result, "a.day").split())
-            count = 4092 if ended is None else 4091
-            self.assertEqual("The job ended at line %d " % (count + 2) in shown, ended is not None)
-            self.assertIn("reads the first 65536: the steps from %d on were not run." % count, shown)
 
     def test_exit_status(self):
         done = day_command("run", "-", input=tank(0).encode())

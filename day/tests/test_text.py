@@ -6,6 +6,7 @@ import re
 import struct
 import tempfile
 import unittest
+from fractions import Fraction
 
 from common import ROOT, bits, day_command, stored_end, stored_jobs, tank
 import records
@@ -171,6 +172,16 @@ WRONG = [
     (tank().replace("150", "-nan"), 1, "expected a number such as"),
     (tank().replace("150 litres", "150"), 1, "expected 'volume NUMBER litres', found 'volume 150'"),
     (tank().replace("150 litres", "150 gallons"), 1, "expected 'volume NUMBER litres'"),
+    (tank().replace("150 litres", "150 ml"), 1, "expected 'volume NUMBER litres'"),
+    (tank().replace("150 litres", "150 W"), 1, "expected 'volume NUMBER litres'"),
+    (tank().replace("1 hours", "1 s"), 1, "expected 'step length NUMBER hours or min', found 'step length 1 s'"),
+    (tank().replace("1 hours", "1e306e min"), 1, "expected a number such as"),
+    (tank().replace("1 hours", "2e310 min"), 1, "that a double can hold"),
+    (tank().replace("55 C", "55 F"), 1, "expected 'initial NUMBER C'"),
+    (tank().replace("55 C", "55xC"), 1, "expected a number such as 12.5, -3, 1e-3, nan, inf or -inf, found '55x'"),
+    (tank().replace("55 C", "C"), 1, "expected 'initial NUMBER C', found 'initial C'"),
+    (tank().replace("layers 4", "layers"), 1, "expected 'layers WHOLE-NUMBER', found 'layers'"),
+    (tank().replace("layers 4, ", ""), 1, "expected 'layers WHOLE-NUMBER' on a tank line"),
     (tank().replace("150 litres", "150 20 litres"), 1, "expected 'volume NUMBER litres'"),
     (tank().replace("ambient 18 C, ", ""), 1, "expected 'ambient NUMBER C' on a tank line"),
     (tank().replace("ambient 18 C", "volume 18 litres"), 1, "expected 'volume' once on a tank line"),
@@ -178,13 +189,16 @@ WRONG = [
     (tank().replace("layers 4", "layers 4.0"), 1, "expected a whole number of layers from 0 to 65535"),
     (tank().replace("layers 4", "layers 65536"), 1, "expected a whole number of layers from 0 to 65535"),
     (tank() + "heater rated power 3 kW\n", 2, "expected 'position NUMBER of height' on a heater line"),
-    (tank() + "heater rated power 3, position 0.1 of height\n", 2, "expected 'rated power NUMBER kW'"),
+    (tank() + "heater rated power 3, position 0.1 of height\n", 2, "expected 'rated power NUMBER kW or W'"),
     (tank() + HEATER + "\n# words\nstep feed 10 C\n", 5, "expected set points for each heater; for heater 0"),
     (tank() + HEATER + STEP + STEP.replace("heater 0", "heater 1"), 4, "expected heater 0 to 0, found 'heater 1"),
     (tank() + STEP, 2, "no heater, for no heater line stands before"),
     (tank() + HEATER + STEP.replace("\n", ", heater 0 none\n"), 3, "expected 'heater 0' once"),
-    (tank() + HEATER + "step feed 10 C, heater 0 upper 60 C lower 50 C\n", 3, "expected 'heater 0 lower NUMBER C upper"),
     (tank() + HEATER + "step feed 10 C, heater 0 lower 50 upper 60 C\n", 3, "expected 'heater 0 lower NUMBER C upper"),
+    (tank() + HEATER + "step feed 10 C, heater 0 lower 5 C lower 6 C\n", 3, "expected 'heater 0 lower NUMBER C upper"),
+    (tank() + HEATER + "step feed 10 C, heater 0 lower 50 51 C\n", 3, "expected 'heater 0 lower NUMBER C upper"),
+    (tank() + HEATER + "step feed 10 C, heater 0 at lower 50 C\n", 3, "expected 'heater 0 lower NUMBER C upper"),
+    (tank() + HEATER + "step feed 10 C, heater 0 lower C upper 60 C\n", 3, "expected 'heater 0 lower NUMBER C upper"),
     (tank() + HEATER + "step feed 10 C, heater 0\n", 3, "expected 'heater 0 lower NUMBER C upper"),
     (tank() + "step draws 3 litres\n", 2, "expected 'feed NUMBER C' on a step line"),
     (tank() + "step feed 10 C, draws litres\n", 2, "with 1 to 65535 numbers, found 0"),
@@ -231,6 +245,84 @@ class WrongLines(unittest.TestCase):
             # 64 bytes of tank, 31 of heater; then the step, a byte short.
             self.assertIn(b"a.job, byte 95: cut short: 29 bytes are to follow its length, 28 are there", done.stderr)
             self.assertEqual(os.listdir(folder), ["a.job"])
+
+
+def beside(value, away):
+    """The next double of the same sign."""
+    return struct.unpack("<d", struct.pack("<q", struct.unpack("<q", struct.pack("<d", value))[0] + away))[0]
+
+
+class Units(unittest.TestCase):
+    def day(self, length="1 hours", power="3 kW", volume="150 litres", initial="55 C", points="lower 50 C upper 60 C"):
+        lines = tank().replace("1 hours", length).replace("150 litres", volume).replace("55 C", initial)
+        lines += HEATER.replace("3 kW", power) + STEP.replace("lower 50 C upper 60 C", points)
+        return text.read_text(lines.encode())
+
+    def test_spellings(self):
+        for unit in ("h", "hour", "hours"):
+            self.assertEqual(self.day(length="0.5 " + unit).tank.step_length, 0.5)
+        for unit in ("min", "minute", "minutes"):
+            self.assertEqual(self.day(length="30 " + unit).tank.step_length, 0.5)
+        for unit in ("l", "litre", "litres"):
+            self.assertEqual(self.day(volume="120.5 " + unit).tank.volume, 120.5)
+        for unit in ("C", "°C", "degC"):
+            self.assertEqual(self.day(initial="-3 " + unit).tank.initial, -3.0)
+            points = "lower 50.5 %s upper 60 %s" % (unit, unit)
+            self.assertEqual(self.day(points=points).steps[0].points, [(50.5, 60.0)])
+        self.assertEqual(self.day(power="3000 W").heaters[0].rated, 3.0)
+        self.assertEqual(self.day(power="3 kW").heaters[0].rated, 3.0)
+
+    def test_without_a_space(self):
+        day = self.day("30min", "2500W", "120l", "-3.5°C", "upper 60degC lower 5e1C")
+        self.assertEqual((day.tank.step_length, day.tank.volume, day.tank.initial), (0.5, 120.0, -3.5))
+        self.assertEqual((day.heaters[0].rated, day.steps[0].points), (2.5, [(50.0, 60.0)]))
+
+    def test_either_order_of_set_points(self):
+        for points in ("lower 50 C upper 60 C", "upper 60 C lower 50 C"):
+            self.assertEqual(self.day(points=points).steps[0].points, [(50.0, 60.0)])
+
+    def test_rounded_once(self):
+        """Each conversion is the double nearest to the exact quotient: no other double is nearer."""
+        rounds = random.Random(18)
+        twice = 0
+        for unit, divisor, read in (("min", 60, self.length), ("W", 1000, self.power)):
+            for _ in range(1500):
+                power = rounds.randrange(-40, 40)
+                word = "%d.%017de%d" % (rounds.randrange(100), rounds.randrange(10**17), power)
+                exact = Fraction(word) / divisor
+                found = read("%s %s" % (word, unit))
+                nearest = abs(Fraction(found) - exact)
+                for other in (beside(found, 1), beside(found, -1)):
+                    self.assertLessEqual(nearest, abs(Fraction(other) - exact), word)
+                twice += found != float(word) / divisor
+        # Where the decimal is rounded before the division, some of these come out otherwise.
+        self.assertGreater(twice, 100)
+
+    def length(self, words):
+        return self.day(length=words).tank.step_length
+
+    def power(self, words):
+        return self.day(power=words).heaters[0].rated
+
+    def test_special_numbers_are_converted_too(self):
+        self.assertEqual(bits(self.length("20 min")), bits(1 / 3))
+        self.assertEqual(bits(self.length("-0 min")), bits(-0.0))
+        self.assertEqual(bits(self.length("-inf min")), bits(float("-inf")))
+        self.assertNotEqual(self.length("nan min"), self.length("nan min"))
+        self.assertEqual(bits(self.power("1e310 W")), bits(1e307))
+        self.assertEqual(bits(self.power("5e-324 W")), bits(0.0))
+        self.assertEqual(bits(self.power("5000e-324 W")), bits(5e-324))
+        self.assertEqual(bits(self.power("-1e-999999999999 W")), bits(-0.0))
+        self.assertEqual(bits(self.power("-1e-323 W")), bits(-0.0))
+        self.assertEqual(bits(self.power("1%se-5000 W" % ("0" * 5000))), bits(0.001))
+
+    def test_what_is_written_has_one_unit(self):
+        day = self.day("30 min", "2500 W", "120 l", "55 °C", "upper 60 °C lower 50 °C")
+        written = text.write_text(day).decode()
+        self.assertIn("volume 120 litres", written)
+        self.assertIn("step length 0.5 hours", written)
+        self.assertIn("rated power 2.5 kW", written)
+        self.assertIn("heater 0 lower 50 C upper 60 C", written)
 
 
 class Readable(unittest.TestCase):

@@ -1,11 +1,9 @@
 """What a flag remembers: true by 01's own comparisons, and the stored flag, after every step of every stored job."""
 
 import functools
-import os
-import tempfile
 import unittest
 
-from common import bits, day_command, stored_jobs
+from common import at_once, bits, stored_jobs
 import programs
 import second_opinion
 import turns
@@ -69,6 +67,9 @@ class StoredJobs(unittest.TestCase):
 
     def check(self, memory, history, heater, index, where):
         """Which reason is given; fails if a fact in it is false."""
+        start = max([here[0] for here in (memory.on, memory.off) if here], default=-1)
+        refused = [step.index for step in history.steps[: index + 1] if step.number and step.index > start]
+        self.assertEqual(memory.refused, refused, where)
         accepted = [step for step in history.steps[: index + 1] if not step.number]
         all_turns = [(step.index, turn) for step in accepted for turn in step.turns if turn.heater == heater]
         if memory.flag:
@@ -84,6 +85,7 @@ class StoredJobs(unittest.TestCase):
             self.assertFalse(any(self.starts(turn) for _, turn in all_turns), where)
             return "never"
         start, turn = memory.off
+        self.assertEqual(memory.since, [here for here in all_turns if here[0] >= start], where)
         self.assertTrue(second_opinion.at_or_under(memory.on[1].begin, memory.on[1].lower), where)
         self.assertLessEqual(memory.on[0], start, where)
         self.assertTrue(turn.upper is None or second_opinion.reached(turn.end, turn.upper), where)
@@ -96,8 +98,8 @@ class StoredJobs(unittest.TestCase):
 
 # 01's figure: two layers at 40, 160 kW at position 0, set points 50 and 60; 45, 50, 55, 60 after the four steps.
 FIGURE = (
-    "tank layers 2, volume 32 litres, standby loss 0 kWh/24h, initial 40 C, density 1 kg/litre, specific heat 1 kWh/kg.K, "
-    "ambient 20 C, step length 1 hours\nheater rated power 160 kW, position 0 of height\n"
+    "tank layers 2, volume 32 litres, standby loss 0 kWh/24h, initial 40 C, density 1 kg/litre, "
+    "specific heat 1 kWh/kg.K, ambient 20 C, step length 1 hours\nheater rated power 160 kW, position 0 of height\n"
 )
 ASKED = "step feed 12 C, heater 0 lower 50 C upper 60 C\n"
 UNSET = "step feed 12 C, heater 0 none\n"
@@ -106,17 +108,13 @@ DROPPED = "step feed nan C, heater 0 lower 50 C upper 60 C\n"
 
 class Words(unittest.TestCase):
     def told(self, text, *options):
-        with tempfile.TemporaryDirectory() as folder:
-            path = os.path.join(folder, "a.day")
-            with open(path, "w") as file:
-                file.write(text)
-            done = day_command("why", path, *options)
+        done = at_once("why", "-", *options, given=text.encode())
         return done.returncode, " ".join((done.stdout + done.stderr).decode().split())
 
     def test_on(self):
         status, told = self.told(FIGURE + 4 * ASKED, "--step", "2")
         self.assertEqual(status, 0)
-        self.assertIn("After step 2 (hour 2): h0 is on. It came on in step 0 (hour 0):", told)
+        self.assertIn("After step 2 (02:00): h0 is on. It has been on from the beginning: in step 0 (00:00)", told)
         self.assertIn("its thermostat layer at 40.00 C, at or under the lower set point of 50 C.", told)
         self.assertIn("In no accepted step from that one on (3 so far) did its turn end", told)
         self.assertIn("with the upper set point missing or reached;", told)
@@ -124,13 +122,13 @@ class Words(unittest.TestCase):
 
     def test_reached(self):
         _, told = self.told(FIGURE + 4 * ASKED)
-        self.assertIn("After step 3 (hour 3), the last: h0 is off. It went off in step 3 (hour 3):", told)
+        self.assertIn("After step 3 (03:00), the last: h0 is off. It went off in step 3 (03:00):", told)
         self.assertIn("its turn ended at 60.00 C, the upper set point of 60 C reached.", told)
-        self.assertIn("It had come on in step 0 (hour 0):", told)
+        self.assertIn("It had been on from the beginning: in step 0 (00:00) its turn began with", told)
 
     def test_missing(self):
         _, told = self.told(FIGURE + 2 * ASKED + 2 * UNSET)
-        self.assertIn("h0 is off. It went off in step 2 (hour 2): its turn ended", told)
+        self.assertIn("h0 is off. It went off in step 2 (02:00): its turn ended", told)
         self.assertIn("with the upper set point missing (thermostat layer 50.00 C).", told)
         self.assertIn("That was 1 step (1 h) earlier.", told)
         self.assertIn("In no accepted step since did its turn begin at or under a lower set point.", told)
@@ -138,7 +136,7 @@ class Words(unittest.TestCase):
 
     def test_never(self):
         _, told = self.told(FIGURE + 3 * ASKED.replace("lower 50", "lower 39"))
-        self.assertIn("h0 is off. It was never on: in no accepted step did its turn begin", told)
+        self.assertIn("h0 is off. It has been off from the beginning: in no accepted step did its turn begin", told)
         nearest = "nearest to it came step 0, which began at 40.00 C, above 39 C."
         self.assertIn("A lower set point was there in 3 of 3 steps; " + nearest, told)
 
@@ -148,7 +146,28 @@ class Words(unittest.TestCase):
         self.assertIn("(1 so far) did its turn end", told)
         self.assertIn("Refused meanwhile, and so without effect on the flag: steps 1, 2.", told)
         _, told = self.told(FIGURE + 2 * DROPPED)
-        self.assertIn("It was never on", told)
+        self.assertIn("It has been off from the beginning: no step was accepted. Refused, and so", told)
+
+    def test_from_the_beginning(self):
+        """Said of what has been so since step 0, and of nothing else."""
+        early = FIGURE.replace("initial 40", "initial 55")
+        for steps, said in (
+            (ASKED, "h0 is on. It has been on from the beginning: in step 0 (00:00) its turn began with"),
+            (4 * ASKED + UNSET, "h0 is off. It went off in step 3 (03:00): its turn ended at"),
+            (4 * ASKED + UNSET, "It had been on from the beginning: in step 0 (00:00) its turn began with"),
+            (3 * UNSET, "h0 is off. It has been off from the beginning: in no accepted step did its turn begin"),
+        ):
+            self.assertIn(said, self.told(FIGURE + steps)[1])
+        for steps, said in (
+            (UNSET + ASKED, "h0 is on. It came on in step 1 (01:00): its turn began with"),
+            (DROPPED + ASKED, "h0 is on. It came on in step 1 (01:00): its turn began with"),
+            (UNSET + ASKED + UNSET, "It had come on in step 1 (01:00): its turn began with"),
+            (4 * ASKED + UNSET + "step feed 12 C, heater 0 lower 65 C upper 90 C\n", "It came on in step 5 (05:00):"),
+        ):
+            told = self.told(FIGURE + steps)[1]
+            self.assertIn(said, told)
+            self.assertNotIn("beginning", told)
+        self.assertIn("It has been off from the beginning: in no accepted", self.told(early + ASKED)[1])
 
     def test_a_hair_is_shown(self):
         """Where rounding would hide the side on which a temperature lies, all its digits are shown."""
