@@ -2,7 +2,7 @@
 
 import math
 
-from picture.colours import WARMEST, colour, scale_bar
+from picture.colours import BAR_HEIGHT, WARMEST, colour, scale_bar
 from picture.frame import KEY, LEFT, RIGHT, axis_name, frame_box
 from picture.svg import GREY, HEATERS, INK, PALE, Scale, box, element, line, place, runs, words
 from table import layer_names
@@ -46,6 +46,11 @@ def circle(x, y):
     return element("circle", cx=float(x), cy=float(y), r=4, fill="#ffffff", stroke=INK, stroke_width=1.8)
 
 
+def key_top(tank_bottom):
+    """Where the keys begin: below the tank and below the scale of colours."""
+    return max(tank_bottom, BAR_TOP + BAR_HEIGHT) + 17
+
+
 def fittings(frame, top, height):
     """An upright line for each heater: a square at the heater's height, a circle at its thermostat's."""
     out, scale = [], Scale(0.0, 1.0, top + height, top)
@@ -56,7 +61,7 @@ def fittings(frame, top, height):
         out.append(box(x - 6, scale(heater.position) - 6, 12, 12, fill=HEATERS[index % len(HEATERS)]))
         out.append(circle(x, scale(heater.position if heater.thermostat is None else heater.thermostat)))
     if frame.day.heaters:
-        y = top + height + 17
+        y = key_top(top + height)
         out += [box(KEY + 1, y - 10, 11, 11, fill=GREY), words(KEY + 18, y, "heater", 12, fill=INK)]
         out += [circle(KEY + 80, y - 4), words(KEY + 90, y, "thermostat", 12, fill=INK)]
     return out
@@ -68,4 +73,4 @@ def bands(frame, top, row):
     height = row * layers
     out = band_paths(frame, top, row) + names(layers, top, row)
     out += [frame_box(top, height), axis_name("tank", top, height)]
-    return out + scale_bar(BAR, BAR_TOP, top + height) + fittings(frame, top, height)
+    return out + scale_bar(BAR, BAR_TOP) + fittings(frame, top, height)

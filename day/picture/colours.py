@@ -11,6 +11,8 @@ TEMPERATURES = ["#0d0887", "#4c02a1", "#7e03a8", "#a82296", "#cb4679", "#e56b5d"
 
 
 COUNT = WARMEST - COLDEST
+# Whole tenths for a degree, as coordinates are written, so that no seam shows; and the two ends.
+BAR_HEIGHT = 1.4 * COUNT + 2 * 15
 DEGREES = [blend(TEMPERATURES, (index + 0.5) / COUNT) for index in range(COUNT)]
 
 
@@ -34,12 +36,9 @@ def ends():
     return [pattern("below", "#000000", snow), pattern("above", "#ffffff", box(0, 1, 4, 1.4, fill="#000000"))]
 
 
-def scale_bar(x, top, bottom):
-    """The scale with its numbers, an end at either side of it."""
-    end, wide = 15, 18
-    # Whole tenths for a degree, as coordinates are written, so that no seam shows.
-    high = math.floor((bottom - top - 2 * end) / COUNT * 10) / 10 * COUNT
-    top = bottom - high - 2 * end
+def scale_bar(x, top):
+    """The scale with its numbers, an end at either side of it, of the same size in every picture."""
+    end, wide, bottom = 15, 18, top + BAR_HEIGHT
     scale = Scale(COLDEST, WARMEST, bottom - end, top + end)
     out = [words(x + wide / 2, top - 6, "°C", 13, text_anchor="middle", fill=INK)]
     for degree in range(COLDEST, WARMEST):

@@ -55,7 +55,11 @@ def drawn(frame, scale, columns):
     return out
 
 
-def key(frame, top, columns):
+def key(frame, top):
+    """What the stacks are, and where the next key may begin."""
+    columns = stacks(frame)
+    if not any(sum(accepted) + sum(refused) > 0 for accepted, refused in columns):
+        return [], top
     name = "one draw" if frame.edges[1] - frame.edges[0] >= APART else "draws of a step"
     name = "draws of a column" if frame.share > 1 else name
     out = [box(KEY, top + 4, 12, 12, fill=DRAWN), words(KEY + 20, top + 14, name, 12, fill=INK)]
@@ -63,7 +67,7 @@ def key(frame, top, columns):
         out.append(box(KEY, top + 21, 12, 12, fill="none", stroke=DRAWN, stroke_width=1.3))
         name = "of refused steps" if frame.share > 1 else "in a refused step"
         out.append(words(KEY + 20, top + 31, name, 12, fill=INK))
-    return out
+    return out, top + 38
 
 
 def draws(frame, top, height):
@@ -74,4 +78,4 @@ def draws(frame, top, height):
         return out + [words(middle, top + height / 2 + 5, "no draws", 13, text_anchor="middle", fill=GREY)]
     low, high = widened(0.0, clamped(most * 1.05))
     scale = Scale(low, high, top + height, top)
-    return y_ticks(scale, ticks(low, high, 3), "litres") + drawn(frame, scale, columns) + key(frame, top, columns) + out
+    return y_ticks(scale, ticks(low, high, 3), "litres") + drawn(frame, scale, columns) + out

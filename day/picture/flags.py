@@ -65,6 +65,8 @@ def flag_row(frame, index, top, row):
 
 
 def key(frame, top):
+    if not frame.day.heaters:
+        return []
     shapes = [(ALL, "flag on after the step"), (None, "heat was supplied")]
     if frame.share > 1:
         shapes = [(ALL, "flag on after all steps"), (SOME, "after some of them"), (None, "some supplied heat")]
@@ -83,4 +85,4 @@ def flags(frame, top, row):
     out = []
     for index in range(len(frame.day.heaters)):
         out += flag_row(frame, index, top + index * row, row)
-    return out + key(frame, top) if out else out
+    return out

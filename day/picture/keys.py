@@ -36,14 +36,14 @@ def layers_key(frame, top):
 
 def points_key(frame, top):
     if not frame.day.heaters:
-        return []
+        return [], top
     out = [words(KEY, top + 4, "set points", 12, fill=INK, font_weight="bold")]
     y = top + ROW
     out.append(line(KEY, y, KEY + 26, y, stroke=GREY, stroke_width=2.2))
     out.append(words(KEY + 34, y + 4, "upper", 12, fill=INK))
     out.append(line(KEY + 100, y, KEY + 126, y, stroke=GREY, stroke_width=2.2, stroke_dasharray="7 5"))
     out.append(words(KEY + 134, y + 4, "lower", 12, fill=INK))
-    return out + begins_key(frame, top + 2.2 * ROW)
+    return out + begins_key(frame, top + 2.2 * ROW), top + (4 if frame.begins_shown else 5) * ROW
 
 
 def begins_key(frame, top):
@@ -59,5 +59,7 @@ def begins_key(frame, top):
 
 
 def keys(frame, top):
-    out, after = layers_key(frame, top)
-    return out + points_key(frame, after)
+    """The keys of the lines, and where the next ones may begin."""
+    layers, after = layers_key(frame, top)
+    points, after = points_key(frame, after)
+    return layers + points, after

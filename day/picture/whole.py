@@ -4,10 +4,9 @@ import textwrap
 from collections import namedtuple
 from xml.sax.saxutils import escape
 
-from picture.bands import bands
+from picture import draws, flags
+from picture.bands import bands, key_top
 from picture.colours import WARMEST, ends
-from picture.draws import draws
-from picture.flags import flags
 from picture.frame import HEIGHT, LEFT, WIDTH, Frame
 from picture.hours import axis_height, hour_axis
 from picture.keys import keys
@@ -18,7 +17,7 @@ from refusals import words as refusal_words
 from table import ended_words, tank_words
 
 # Where panels begin and how high they are; `layer` and `flag` are the heights of a layer's and of a flag's row.
-Places = namedtuple("Places", "tank layer lines lines_height draws draws_height flags flag bottom foot")
+Places = namedtuple("Places", "tank layer lines lines_height draws draws_height flags flag bottom foot foot_row")
 
 
 def heading(frame, title):
@@ -46,7 +45,8 @@ def foot_lines(frame):
 def places(frame, foot):
     """All panels within the height of the picture: the lines get what the others leave."""
     heaters, layers = len(frame.day.heaters), frame.day.tank.layers
-    foot_top = HEIGHT - 6 - 15 * len(foot)
+    foot_row = 15 if len(foot) <= 3 else 13
+    foot_top = HEIGHT - 6 - foot_row * len(foot)
     bottom = foot_top - axis_height(frame)
     flag = max(15, min(26, 92 // heaters)) if heaters else 0
     flags_top = bottom - flag * heaters
@@ -54,10 +54,17 @@ def places(frame, foot):
     draws_top = flags_top - 8 - draws_height
     tank = 86 if frame.share > 1 else 70
     room = draws_top - 16 - 14 - tank
-    layer = max(1, int(min(150, 0.38 * room) / layers))
+    layer = max(2, int(min(150, 0.38 * room) / layers))
     lines = tank + layer * layers + 14
     high = draws_top - 16 - lines
-    return Places(tank, layer, lines, high, draws_top, draws_height, flags_top, flag, bottom, foot_top)
+    return Places(tank, layer, lines, high, draws_top, draws_height, flags_top, flag, bottom, foot_top, foot_row)
+
+
+def all_keys(frame, at):
+    """Each beside its panel, or further down where the one above it is long."""
+    lines, after = keys(frame, key_top(at.tank + at.layer * frame.day.tank.layers) + 22)
+    stacks, after = draws.key(frame, max(at.draws, after))
+    return lines + stacks + flags.key(frame, max(at.flags, after))
 
 
 def picture(day, report, history, title):
@@ -69,11 +76,13 @@ def picture(day, report, history, title):
 
     parts = heading(frame, title) + hour_axis(frame, at.tank, at.bottom)
     parts += bands(frame, at.tank, at.layer)
-    parts += temperatures(frame, at.lines, at.lines_height, scale) + keys(frame, at.lines + 26)
-    parts += draws(frame, at.draws, at.draws_height)
-    parts += flags(frame, at.flags, at.flag)
-    parts += refused_marks(frame, at.tank, at.bottom)
-    parts += [words(LEFT, at.foot + 11 + 15 * row, line, 12, fill=REFUSED) for row, line in enumerate(foot)]
+    parts += temperatures(frame, at.lines, at.lines_height, scale)
+    parts += draws.draws(frame, at.draws, at.draws_height)
+    parts += flags.flags(frame, at.flags, at.flag)
+    parts += refused_marks(frame, at.tank, at.bottom) + all_keys(frame, at)
+    for row, line in enumerate(foot):
+        size = 12 if at.foot_row == 15 else 11
+        parts.append(words(LEFT, at.foot + 11 + at.foot_row * row, line, size, fill=REFUSED))
 
     patterns = element("defs", "".join(ends() + hatches()))
     lines = [element("title", escape(title)), patterns, box(0, 0, WIDTH, HEIGHT, fill="#ffffff")] + parts

@@ -36,7 +36,7 @@ def outcome(day):
     return result, turns.read_history(programs.lines_of("history", job, count))
 
 
-def made_up(seed, layers, heaters, steps, length=0.5, low=5.0, high=80.0, refused=0.02):
+def made_up(seed, layers, heaters, steps, length=0.5, low=5.0, high=80.0, refused=0.02, kinds=(7, 8)):
     """A day of any length with figures from nowhere: a picture is to show what it is given."""
     chance = random.Random(seed)
     day = records.Day(records.Tank(layers, 150.0, 1.5, (low + high) / 2, 1.0, 0.001163, 18.0, length), [], [])
@@ -45,7 +45,7 @@ def made_up(seed, layers, heaters, steps, length=0.5, low=5.0, high=80.0, refuse
     told, turned, pool = [], [], [[chance.uniform(low, high) for _ in range(layers)] for _ in range(97)]
     lines = [report.Line(flag, 1.0, flag * 1.0, 0.1, 1) for flag in (False, False, True)]
     for index in range(steps):
-        number = 0 if chance.random() >= refused else chance.choice((7, 8))
+        number = 0 if chance.random() >= refused else chance.choice(kinds)
         volumes = [30.0, 10.0] if chance.random() < 0.1 else []
         points = (45.0 - index // 5 % 2, 60.0 + index // 3 % 2)
         day.steps.append(records.Step(10.0, volumes, [points] * heaters))

@@ -97,15 +97,27 @@ class Fits(Checks):
                 text = picture.picture(day, result, history, "A day")
                 # Figures from nowhere are the worst case: no two steps are alike.
                 self.assertLess(len(text), 2000000)
-                root = ElementTree.fromstring(text)
-                width, height = numbers(root, "width", "height")
-                self.assertTrue(width <= 1300 and height <= 640, (width, height))
-                self.assertEqual(list(map(float, root.get("viewBox").split())), [0, 0, width, height])
-                self.check_words(root)
-                self.assertGreaterEqual(min(float(part.get("font-size")) for part in root.iter(SVG + "text")), 11)
-                xs, ys = zip(*places(root))
-                self.assertTrue(min(xs) >= 0 and max(xs) <= width and min(ys) >= 0 and max(ys) <= height)
-                self.check_rows(root, heaters)
+                self.check_fits(ElementTree.fromstring(text), heaters)
+
+    def test_the_fullest_pictures_fit(self):
+        """Each refusal that a step can have, in words, and why the job ended: the foot takes height from the panels."""
+        for layers, heaters, steps in ((8, 8, 336), (8, 8, 1488), (32, 8, 100)):
+            with self.subTest(layers=layers, heaters=heaters, steps=steps):
+                day, result, history = made_up(1, layers, heaters, steps, refused=0.3, kinds=(6, 7, 8, 9, 10))
+                root = drawn(day, result._replace(ended=(11, 99999)), history)
+                self.check_fits(root, heaters)
+                for begin in ["refused %d: " % number for number in (6, 7, 8, 9, 10)] + ["The job ended at "]:
+                    self.assertTrue(any(text.startswith(begin) for text in texts(root)), begin)
+
+    def check_fits(self, root, heaters):
+        width, height = numbers(root, "width", "height")
+        self.assertTrue(width <= 1300 and height <= 640, (width, height))
+        self.assertEqual(list(map(float, root.get("viewBox").split())), [0, 0, width, height])
+        self.check_words(root)
+        self.assertGreaterEqual(min(float(part.get("font-size")) for part in root.iter(SVG + "text")), 11)
+        xs, ys = zip(*places(root))
+        self.assertTrue(min(xs) >= 0 and max(xs) <= width and min(ys) >= 0 and max(ys) <= height)
+        self.check_rows(root, heaters)
 
     def check_rows(self, root, heaters):
         """A row of flags for each heater, one under the other, between the draws and the words of the axis."""
@@ -154,7 +166,7 @@ class Shows(Checks):
 
     def test_a_colour_is_one_temperature(self):
         """In days of other temperatures, and in one whose columns steps share, each colour is that of the scale."""
-        scales, seen = [], 0
+        scales, sizes, seen = [], set(), 0
         cases = [(5, 95, 40), (49, 51, 40), (-30, 20, 40), (80, 200, 40), (-5, 95, 2000)]
         for seed, (low, high, steps) in enumerate(cases):
             day, result, history = made_up(seed, 4, 1, steps, low=low, high=high)
@@ -162,6 +174,7 @@ class Shows(Checks):
             root = drawn(day, result, history)
             scale = colour_scale(root)
             scales.append(scale)
+            sizes.add(tuple(sum(float(part.get(name)) for part in of_class(root, "scale")) for name in ("y", "height")))
             told = [part.text for part in of_class(root, "shared") if "coldest (or above 90)" in part.text]
             self.assertEqual(len(told), 1 if steps == 2000 else 0)
             for temperature, colour in self.colours(day, result, root):
@@ -169,6 +182,7 @@ class Shows(Checks):
                 self.assertEqual(colour, end or scale[min(int(temperature), 89)], temperature)
                 seen += 1
         self.assertEqual(seen, 4 * 4 * 40 + 4 * 667)
+        self.assertEqual(len(sizes), 1)
         self.assertEqual(sorted(scales[0]), list(range(90)))
         self.assertEqual(len(set(scales[0].values())), 90)
         for scale in scales:
