@@ -2,75 +2,75 @@
 
 import math
 
+from picture.colours import BAR_HEIGHT, WARMEST, colour, scale_bar
 from picture.frame import KEY, LEFT, RIGHT, axis_name, frame_box
-from picture.svg import GREY, HEATERS, INK, PALE, TEMPERATURES
-from picture.svg import Scale, blend, box, element, line, place, runs, tick_words, ticks, words
+from picture.svg import GREY, HEATERS, INK, PALE, Scale, box, element, line, place, runs, words
 from table import layer_names
 
-LEVELS = 96  # colours told apart
+BAR = KEY + 148  # where the scale of colours stands: beside the fittings of eight heaters
+BAR_TOP = 24
 
 
-def band_paths(frame, top, row, low, high):
-    """One path for each colour; cells share their edges, so that no seam shows."""
-    scale, by_level = Scale(low, high, 0.0, float(LEVELS)), {}
+def shown(values):
+    """Of the steps that share a column the coldest, so that no cold water is hidden; but above 90 C shows too."""
+    return max(values) if max(values) > WARMEST else min(values)
+
+
+def band_paths(frame, top, row):
+    """One path for each colour, of lines as wide as a layer is high: they meet, so that no seam shows."""
+    by_colour = {}
     for down, layer in enumerate(reversed(range(frame.day.tank.layers))):
-        levels = [min(LEVELS - 1, max(0, int(scale(step.layers[layer])))) for step in frame.report.steps]
-        upper, lower = place(top + down * row), place(top + (down + 1) * row)
-        for first, last, level in runs(levels):
+        temperatures = frame.columns([step.layers[layer] for step in frame.report.steps])
+        middle = place(top + (down + 0.5) * row)
+        for first, last, paint in runs([colour(shown(some)) for some in temperatures]):
             left, right = place(frame.edges[first]), place(frame.edges[last + 1])
-            by_level.setdefault(level, []).append("M%s %sH%sV%sH%sz" % (left, upper, right, lower, left))
+            by_colour.setdefault(paint, []).append("M%s %sH%s" % (left, middle, right))
     out = []
-    for level, pieces in sorted(by_level.items()):
-        colour = blend(TEMPERATURES, (level + 0.5) / LEVELS)
-        out.append(element("path", d="".join(pieces), fill=colour, shape_rendering="crispEdges", class_="band"))
+    for paint, pieces in sorted(by_colour.items()):
+        stroke = dict(stroke=paint, stroke_width=row, shape_rendering="crispEdges")
+        out.append(element("path", d="".join(pieces), class_="band", **stroke))
     return out
 
 
 def names(layers, top, row):
     """A name for every layer, or for every few where rows are low; the bottom always has one."""
-    out, every = [], max(1, math.ceil(16 / row))
+    out, every = [], max(1, math.ceil(14 / row))
     for down, name in enumerate(layer_names(layers)):
         last = down == layers - 1
-        if last or down % every == 0 and row * (layers - 1 - down) >= 16:
-            out.append(words(LEFT - 8, top + (down + 0.5) * row + 5, name, 15, text_anchor="end", fill=INK))
-    return out
-
-
-def colour_bar(frame, top, height, low, high):
-    x, count = RIGHT + 30 + 20 * len(frame.day.heaters), 48
-    out = [words(x + 9, top - 8, "°C", 15, text_anchor="middle", fill=INK)]
-    for index in range(count):
-        y = top + height * (1 - (index + 1) / count)
-        out.append(box(x, y, 18, height / count + 0.6, fill=blend(TEMPERATURES, (index + 0.5) / count)))
-    scale = Scale(low, high, top + height, top)
-    for value in ticks(low, high, max(2, int(height / 24))):
-        out.append(line(x + 18, scale(value), x + 23, scale(value), stroke=INK))
-        out.append(words(x + 27, scale(value) + 5, tick_words(value), 14, fill=INK))
+        if last or down % every == 0 and row * (layers - 1 - down) >= 14:
+            out.append(words(LEFT - 6, top + (down + 0.5) * row + 4, name, 12, text_anchor="end", fill=INK))
     return out
 
 
 def circle(x, y):
-    return element("circle", cx=float(x), cy=float(y), r=4.5, fill="#ffffff", stroke=INK, stroke_width=2)
+    return element("circle", cx=float(x), cy=float(y), r=4, fill="#ffffff", stroke=INK, stroke_width=1.8)
+
+
+def key_top(tank_bottom):
+    """Where the keys begin: below the tank and below the scale of colours."""
+    return max(tank_bottom, BAR_TOP + BAR_HEIGHT) + 17
 
 
 def fittings(frame, top, height):
     """An upright line for each heater: a square at the heater's height, a circle at its thermostat's."""
     out, scale = [], Scale(0.0, 1.0, top + height, top)
     for index, heater in enumerate(frame.day.heaters):
-        x = RIGHT + 26 + index * 20
-        out.append(words(x, top - 8, "h%d" % index, 13, text_anchor="middle", fill=INK))
+        x = KEY + 7 + index * 18
+        out.append(words(x, top - 6, "h%d" % index, 11, text_anchor="middle", fill=INK))
         out.append(line(x, top, x, top + height, stroke=PALE, stroke_width=2))
         out.append(box(x - 6, scale(heater.position) - 6, 12, 12, fill=HEATERS[index % len(HEATERS)]))
         out.append(circle(x, scale(heater.position if heater.thermostat is None else heater.thermostat)))
     if frame.day.heaters:
-        y = top + height + 20
-        out += [box(KEY, y - 11, 12, 12, fill=GREY), words(KEY + 18, y, "heater", 14, fill=INK)]
-        out += [circle(KEY + 88, y - 5), words(KEY + 98, y, "thermostat", 14, fill=INK)]
+        y = key_top(top + height)
+        out += [box(KEY + 1, y - 10, 11, 11, fill=GREY), words(KEY + 18, y, "heater", 12, fill=INK)]
+        out += [circle(KEY + 80, y - 4), words(KEY + 90, y, "thermostat", 12, fill=INK)]
     return out
 
 
-def bands(frame, top, height, low, high):
+def bands(frame, top, row):
+    """`row` is the height of a layer."""
     layers = frame.day.tank.layers
-    out = band_paths(frame, top, height / layers, low, high) + names(layers, top, height / layers)
+    height = row * layers
+    out = band_paths(frame, top, row) + names(layers, top, row)
     out += [frame_box(top, height), axis_name("tank", top, height)]
-    return out + colour_bar(frame, top, height, low, high) + fittings(frame, top, height)
+    return out + scale_bar(BAR, BAR_TOP) + fittings(frame, top, height)

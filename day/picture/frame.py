@@ -1,14 +1,36 @@
-"""What the panels of a picture share: where each step stands, axes, and the marks of refused steps."""
+"""What the panels of a picture share: which steps stand in which column, where columns are, axes at the left."""
 
 import math
 
-from picture.svg import GREY, INK, PALE, Scale, box, line, place, runs, text_width, tick_words, ticks, words
+from picture.svg import GREY, INK, PALE, Scale, box, line, place, tick_words, words
 
-WIDTH, LEFT, RIGHT = 1280, 108, 1030
-KEY = RIGHT + 24  # where a panel's key stands
-REFUSED = "#8a1c1c"
-HOUR_STEPS = [0.25, 0.5, 1, 2, 3, 6, 12, 24, 48, 72, 120, 168, 240, 336, 480, 720]
+# A laptop's screen of 1366 x 768 has some 1300 x 640 for a page.
+WIDTH, HEIGHT = 1280, 624
+LEFT, RIGHT = 92, 1052
+KEY = RIGHT + 18  # where a panel's key stands
 MOST_BEGINS = 250  # more circles than these would hide one another
+
+
+def on_the_clock(length):
+    """Whether steps of so many hours go a whole number of times into a day, so that they have clock times."""
+    return 1 / 60 <= length <= 24 and (24 / length).is_integer()
+
+
+def clock(hours):
+    """The time of day, so many hours after midnight."""
+    minutes = round(hours * 60) % (24 * 60)
+    return "%02d:%02d" % (minutes // 60, minutes % 60)
+
+
+def steps_in_a_column(count, length):
+    """1 where each step has a pixel. Else as many as are needed, and some more, so that days begin with a column."""
+    least = max(1, -(-count // (RIGHT - LEFT)))
+    if least == 1 or not on_the_clock(length):
+        return least
+    daily = round(24 / length)
+    # A quarter of a day at most, or whole days: half days would show day and night by turns.
+    parts = [some for some in range(least, daily // 4 + 1) if daily % some == 0]
+    return parts[0] if parts else -(-least // daily) * daily
 
 
 class Frame:
@@ -17,20 +39,32 @@ class Frame:
         self.count = len(report.steps)
         length = day.tank.step_length
         self.hours = math.isfinite(length * self.count) and length > 1e-300
+        self.clocked = self.hours and on_the_clock(length)
         self.length = length if self.hours else 1.0
         self.x = Scale(0.0, self.length * self.count, LEFT, RIGHT)
-        self.edges = [self.x(self.length * index) for index in range(self.count + 1)]
+        self.share = steps_in_a_column(self.count, self.length)
+        self.firsts = list(range(0, self.count, self.share))
+        self.edges = [self.x(self.length * index) for index in self.firsts + [self.count]]
         self.refused = [step.number for step in report.steps]
-        self.begins_shown = 0 < self.count * len(day.heaters) <= MOST_BEGINS
+        self.begins = self.count * len(day.heaters)
+        self.begins_shown = 0 < self.begins <= MOST_BEGINS
 
     def span(self, first, last):
-        """Where the steps from first to last begin and how wide they are."""
+        """Where the columns from first to last begin and how wide they are."""
         return self.edges[first], self.edges[last + 1] - self.edges[first]
+
+    def columns(self, values):
+        """The values of steps, column by column."""
+        return [values[first : first + self.share] for first in self.firsts]
+
+    def steps(self, first, last):
+        """The steps of the columns from first to last, as a mark says them."""
+        return "%d-%d" % (self.firsts[first], min(self.firsts[last] + self.share, self.count) - 1)
 
 
 def axis_name(text, top, height):
-    turned = "translate(22 %s) rotate(-90)" % place(top + height / 2)
-    return words(0, 0, text, 15, text_anchor="middle", fill=INK, transform=turned)
+    turned = "translate(15 %s) rotate(-90)" % place(top + height / 2)
+    return words(0, 0, text, 12, text_anchor="middle", fill=INK, transform=turned)
 
 
 def y_ticks(scale, values, unit):
@@ -38,46 +72,9 @@ def y_ticks(scale, values, unit):
     for value in values:
         y = scale(value)
         out.append(line(LEFT, y, RIGHT, y, stroke=PALE, stroke_width=1))
-        out.append(words(LEFT - 8, y + 5, tick_words(value), 15, text_anchor="end", fill=INK, class_=unit))
+        out.append(words(LEFT - 6, y + 4, tick_words(value), 12, text_anchor="end", fill=INK, class_=unit))
     return out
 
 
 def frame_box(top, height):
     return box(LEFT, top, RIGHT - LEFT, height, fill="none", stroke=GREY, stroke_width=1)
-
-
-def hour_axis(frame, top, bottom):
-    out = []
-    steps = [step for step in HOUR_STEPS if step >= frame.length]
-    for value in ticks(0.0, frame.length * frame.count, 13, steps):
-        x = frame.x(value)
-        out.append(line(x, top, x, bottom + 6, stroke=PALE, stroke_width=1))
-        out.append(words(x, bottom + 23, tick_words(value), 15, text_anchor="middle", fill=INK))
-    name = "hours from the begin of step 0" if frame.hours else "steps"
-    out.append(words((LEFT + RIGHT) / 2, bottom + 48, name, 16, text_anchor="middle", fill=INK))
-    return out
-
-
-def refused_marks(frame, top, bottom):
-    """A hatch over all panels, with the refusal's number above where there is room for it."""
-    out, free = [], LEFT - 40.0
-    for first, last, number in runs(frame.refused):
-        if not number:
-            continue
-        x, width = frame.span(first, last)
-        # A hatch does not show on a narrow strip.
-        fill, strength = ("url(#hatch)", None) if width >= 10 else (REFUSED, "0.6")
-        if width >= 10:
-            out.append(box(x, top, width, bottom - top, fill="#ffffff", fill_opacity="0.35"))
-        marks = dict(class_="refused", data_steps="%d-%d" % (first, last), data_number=number)
-        out.append(box(x, top, max(width, 1.5), bottom - top, fill=fill, fill_opacity=strength, **marks))
-        label = "refused %d" % number
-        if text_width(label, 14) > width + 30:
-            label = "%d" % number
-        room, middle = text_width(label, 14), x + width / 2
-        start = min(max(middle - room / 2, free + 4), RIGHT - room)
-        if start >= free + 4 and abs(start + room / 2 - middle) <= max(width, room):
-            bold = dict(text_anchor="middle", fill=REFUSED, font_weight="bold")
-            out.append(words(start + room / 2, top - 8, label, 14, **bold))
-            free = start + room
-    return out

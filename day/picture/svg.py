@@ -6,13 +6,11 @@ from xml.sax.saxutils import escape, quoteattr
 
 FONT = "'DejaVu Sans', Verdana, Helvetica, Arial, sans-serif"
 INK, GREY, PALE = "#1a1a1a", "#5f5f5f", "#d9d9d9"
-
-# Cold is dark and hot is bright, so the order shows without hue too (the map plasma of matplotlib, every eighth of it).
-TEMPERATURES = ["#0d0887", "#4c02a1", "#7e03a8", "#a82296", "#cb4679", "#e56b5d", "#f89441", "#fdc328", "#f0f921"]
+# Lines and bars stand out from white at 3 to 1 at least.
 # Layers from the bottom to the top.
-HEIGHTS = ["#a6cee8", "#6baed6", "#3182bd", "#08519c", "#08255c"]
-# Heaters: told apart by people who do not see red or green (after Okabe and Ito), and by their dashes.
-HEATERS = ["#e08a00", "#009e73", "#c0398b", "#8c510a", "#d55e00", "#5e9c00", "#444444", "#b39b00"]
+HEIGHTS = ["#559bcd", "#3c85c2", "#1f66ad", "#0b4488", "#061b45"]
+# Heaters: the first four told apart by people who do not see red or green too (after Okabe and Ito).
+HEATERS = ["#cc7a00", "#008f68", "#c0398b", "#8c510a", "#6a3fb5", "#568f00", "#444444", "#9c8600"]
 
 
 def place(value):

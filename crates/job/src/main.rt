@@ -1,43 +1,62 @@
-// Reads a job of at most 65,536 bytes from standard input and prints its lines, one write for those of a record.
-ghost use mathlib.Core.Path.{_≡_};
-ghost use Prim.Native.Nat.{_≤_, _<_};
+// Reads a job of at most 65,536 bytes from standard input and prints its lines, those of a record together. A read or a write that fails ends the program, and
+// standard error says why: then standard output has a beginning of the lines, and nothing where it was a read.
+ghost use Prim.Native.Nat.{_≤_};
 ghost use lib.ListN.{length};
-ghost use Rattle.job_run.specs.Job.{turn, jobRun, jobText};
+ghost use Rattle.job_run.specs.Job.{Countable, turn};
+ghost use Rattle.job_run.specs.Handed.{Sends, Handed};
 use job_run::Job;
-use job_run::Printed;
-use libc::STDIN_FILENO;
-use libc::STDOUT_FILENO;
+use job_run::Ran;
 
-// The next record: its lines in one write, and the job after it.
-fn print_record(bytes: &[u8], job: Job) -> Printed
-    requires { ⌜ job .steps < 65536 ⌝ }
-    ensures { λ r. ⌜ (r .job ≡ turn (now (bytes .entry)) job .job) × (r .length ≡ length (turn (now (bytes .entry)) job .text)) × (r .length ≤ 1500) ⌝ }
+// The next record: its lines handed on, and the job after it.
+fn print_record(bytes: &[u8], job: Job) -> Ran
+    requires { ⌜ Countable job ⌝ }
+    ensures { λ r. ⌜ Sends (turn (now (bytes .entry)) job) r ⌝ }
 {
     let mut lines = io::buffer();
     let p = job_run::record::next_record(&mut lines, bytes, job);
     let n = p.length;
-    io::write_all(STDOUT_FILENO, &lines[..n]);
-    p
+    let s = streams::send(b"job", &lines[..n]);
+    let next = p.job;
+    Ran {
+        job: next,
+        taken: s.count,
+        failed: s.failed,
+    }
 }
 
-// All records, until the job has ended. The writes cannot be spoken of: the answer is where the job ended and how many bytes were handed to them.
-fn run(bytes: &[u8]) -> Printed
+// All records, until the job has ended or a write fails. What a write does cannot be spoken of: the answer says where the job stands and what was taken.
+fn run(bytes: &[u8]) -> Ran
     requires { ⌜ length (now bytes) ≤ 65536 ⌝ }
-    ensures { λ r. ⌜ (r .job ≡ jobRun (now (bytes .entry)) .job) × (r .length ≡ length (jobText (now (bytes .entry)))) ⌝ }
+    ensures { λ r. ⌜ Handed (turn (now (bytes .entry))) (length (now (bytes .entry))) r ⌝ }
 {
     let mut job = job_run::start::start();
-    let mut length = 0;
+    let mut taken = 0;
     while !job.ended {
         let p = print_record(bytes, job);
         let next = p.job;
+        taken += p.taken;
+        if p.failed {
+            return Ran {
+                job,
+                taken,
+                failed: true,
+            };
+        }
         job = next;
-        length += p.length;
     }
-    Printed { job, length }
+    Ran {
+        job,
+        taken,
+        failed: false,
+    }
 }
 
 fn main() {
     let mut buf = io::large_buffer();
-    let n = io::read_full(STDIN_FILENO, &mut buf);
+    let read = streams::fill(b"job", &mut buf);
+    if read.failed {
+        return;
+    }
+    let n = read.count;
     run(&buf[..n]);
 }

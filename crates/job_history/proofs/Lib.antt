@@ -3,3 +3,4 @@ pub mod Telling
 pub mod StepTold
 pub mod DemandHistory
 pub mod HistoryMoves
+pub mod HistoryWindow

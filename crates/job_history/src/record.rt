@@ -1,6 +1,5 @@
 // One record of a job's history: the tank made, a heater added, a step's turns, or the end.
-ghost use Prim.Native.Nat.{_<_};
-ghost use Rattle.job_run.specs.Job.{Turned};
+ghost use Rattle.job_run.specs.Job.{Countable, Turned};
 ghost use Rattle.job_history.specs.History.{historyStep, historyTurn};
 use job_reader::Record;
 use job_run::Job;
@@ -9,7 +8,7 @@ use tank_model::Step;
 
 // A step's turns; the job goes on as it does when it prints its figures.
 fn tell_step(buf: &mut [u8], j: Job, next: usize, a: Step) -> Printed
-    requires { ⌜ j .steps < 65536 ⌝ }
+    requires { ⌜ Countable j ⌝ }
     ensures { λ r. ⌜ Turned (historyStep j next a) (now (buf .entry)) (now (buf .exit)) r ⌝ }
 {
     let before = j.tank;
@@ -29,7 +28,7 @@ fn tell_step(buf: &mut [u8], j: Job, next: usize, a: Step) -> Printed
 
 // The next record of a job: the lines of its history into the lent buffer, and the job after it.
 pub fn next_history(buf: &mut [u8], bytes: &[u8], j: Job) -> Printed
-    requires { ⌜ j .steps < 65536 ⌝ }
+    requires { ⌜ Countable j ⌝ }
     ensures { λ r. ⌜ Turned (historyTurn (now (bytes .entry)) j) (now (buf .entry)) (now (buf .exit)) r ⌝ }
 {
     let d = j.design;

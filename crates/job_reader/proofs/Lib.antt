@@ -5,4 +5,5 @@ pub mod ReadLaws
 pub mod ReaderLaws
 pub mod EntryLaws
 pub mod ValueLaws
+pub mod WindowLaws
 pub mod WholeJob

@@ -7,4 +7,5 @@ pub mod Values
 pub mod ReadValues
 pub mod Reader
 pub mod WellFormed
+pub mod Windows
 pub mod WholeJob

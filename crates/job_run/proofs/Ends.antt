@@ -13,7 +13,7 @@ use Rattle.job_run.proofs.Moves.{Moves, turn-moves}
 -- a job stands within its input of `size` bytes, and has counted no more steps than records can have passed
 pub record Within (size : ℕ) (j : Job) : Type 0 where
   pub placed : j .at ≤ size
-  pub counted : 16 * j .steps ≤ j .at
+  pub counted : 16 * j .steps ≤ j .before + j .at
 
 -- how many turns it can still take: none if it has ended
 abbrev pub turnsLeft : ℕ → Bool → ℕ → ℕ
@@ -28,8 +28,15 @@ module _ (f : Job → Turn) (size : ℕ) (moves : (j : Job) → Moves j size (f 
   turn-within = go (f j) (moves j)
     where
       go : (t : Turn) → Moves j size t → Within size (t .job)
-      go t (inl e) = record { placed = rw (e .1) (w .placed); counted = rw (e .1, e .2) (w .counted) }
-      go t (inr m) = let c = w .counted in let p = m .1 in let q = m .3 in record { placed = m .2; counted = omega arith }
+      go t (inl e) = record { placed = rw (e .1) (w .placed); counted = rw (e .1, e .2, e .3) (w .counted) }
+      go t (inr m) = let c = w .counted in let p = m .1 in let q = m .3 in let b = m .4 in record { placed = m .2; counted = omega arith }
+
+  pub turn-before : f j .job .before ≡ j .before
+  turn-before = go (f j) (moves j)
+    where
+      go : (t : Turn) → Moves j size t → t .job .before ≡ j .before
+      go t (inl e) = e .3
+      go t (inr m) = m .4
 
   pub turn-less : j .ended ≡ false → turnsLeft size (f j .job .ended) (f j .job .at) < size - j .at + 1
   turn-less e = go (f j) (moves j)

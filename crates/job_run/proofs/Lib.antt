@@ -2,4 +2,8 @@
 pub mod Moves
 pub mod Ends
 pub mod Rest
+pub mod Handed
 pub mod EmptyInput
+pub mod TurnWindow
+pub mod Windowed
+pub mod WindowLoop

@@ -19,19 +19,19 @@ use Rattle.job_reader.specs.WellFormed.{WellFormed}
 use Rattle.job_reader.specs.Records.{refusedAt}
 use Rattle.job_reader.proofs.ReadLaws.{read-either, well-formed-moves}
 use Rattle.job_run.specs.declared.Job.{Job}
-use Rattle.job_run.specs.Job.{Turn, designOf, withHeater, stepOf, readingOf, endedJob, withTank, refusedTurn, madeTurn, heaterTurn, stepTurn, endTurn, turnOf, turn}
+use Rattle.job_run.specs.Job.{Turn, designOf, withHeater, stepOf, readingOf, endedJob, offsetOf, withTank, refusedTurn, madeTurn, heaterTurn, stepTurn, endTurn, turnOf, turn}
 
 -- the job ends here, with no step more
 abbrev pub Ends : Job → Turn → Type 0
-Ends j t = (t .job .ended ≡ true) × (t .job .at ≡ j .at) × (t .job .steps ≡ j .steps)
+Ends j t = (t .job .ended ≡ true) × (t .job .at ≡ j .at) × (t .job .steps ≡ j .steps) × (t .job .before ≡ j .before)
 
 -- it goes on at `next`, with one step more at most
 abbrev GoesOn : Job → ℕ → Turn → Type 0
-GoesOn j next t = (t .job .ended ≡ j .ended) × (t .job .at ≡ next) × (t .job .steps ≤ j .steps + 1)
+GoesOn j next t = (t .job .ended ≡ j .ended) × (t .job .at ≡ next) × (t .job .steps ≤ j .steps + 1) × (t .job .before ≡ j .before)
 
 -- it goes on within the input, past a record of 16 bytes at least
 abbrev pub MovesOn : ℕ → Job → Turn → Type 0
-MovesOn size j t = (t .job .ended ≡ j .ended) × (j .at + 16 ≤ t .job .at) × (t .job .at ≤ size) × (t .job .steps ≤ j .steps + 1)
+MovesOn size j t = (t .job .ended ≡ j .ended) × (j .at + 16 ≤ t .job .at) × (t .job .at ≤ size) × (t .job .steps ≤ j .steps + 1) × (t .job .before ≡ j .before)
 
 either : (P : Turn → Type 0) (b : Bool) (x y : Turn) → P x → P y → P (cond b x y)
 either P true x y p q = p
@@ -40,11 +40,11 @@ either P false x y p q = q
 module _ (j : Job) where
   refused-ends : (n : ℕ) → Ends j (refusedTurn j n)
   unfolding refusedTurn
-  refused-ends n = (refl, refl, refl)
+  refused-ends n = (refl, refl, refl, refl)
 
   end-ends : (size number : ℕ) → Ends j (endTurn size j number)
   unfolding endTurn
-  end-ends size n = either (Ends j) (eqb (j .at) size && not (eqb (j .at) 0)) (record { job = endedJob j; text = [] }) (refusedTurn j n) (refl, refl, refl) (refused-ends n)
+  end-ends size n = either (Ends j) (eqb (j .at) size && not (eqb (offsetOf j) 0)) (record { job = endedJob j; text = [] }) (refusedTurn j n) (refl, refl, refl, refl) (refused-ends n)
 
   module _ (next : ℕ) where
     abbrev Goes : Turn → Type 0
@@ -54,7 +54,7 @@ module _ (j : Job) where
     unfolding madeTurn
     made-goes d =
         let m = made d in
-        either Goes (eqb (m .number) 0) (record { job = withTank j next d (m .tank); text = [] }) (refusedTurn j (m .number)) (inr (refl, refl, omega arith)) (inl (refused-ends (m .number)))
+        either Goes (eqb (m .number) 0) (record { job = withTank j next d (m .tank); text = [] }) (refusedTurn j (m .number)) (inr (refl, refl, omega arith, refl)) (inl (refused-ends (m .number)))
 
     heater-goes : (h : Heater) → Goes (heaterTurn j next h)
     unfolding heaterTurn
@@ -64,7 +64,7 @@ module _ (j : Job) where
 
     step-goes : (a : Step) → Goes (stepTurn j next a)
     unfolding stepTurn
-    step-goes a = inr (refl, refl, omega arith)
+    step-goes a = inr (refl, refl, omega arith, refl)
 
   of-goes : (bytes : List ℕ) (r : Reading) (x : Record) → Goes (r .next) (turnOf bytes j r x)
   unfolding turnOf
@@ -79,7 +79,7 @@ module _ (j : Job) where
 
   goes-moves : (size next : ℕ) (t : Turn) → (j .at + 16 ≤ next) × (next ≤ size) → Goes next t → Moves size t
   goes-moves size next t l (inl e) = inl e
-  goes-moves size next t l (inr g) = inr (g .0, rw (g .1) (l .0), rw (g .1) (l .1), g .2)
+  goes-moves size next t l (inr g) = inr (g .0, rw (g .1) (l .0), rw (g .1) (l .1), g .2, g .3)
 
   pub turn-moves : (bytes : List ℕ) → Moves (length bytes) (turn bytes j)
   unfolding turn turnOf

@@ -10,7 +10,7 @@ use lib.ListN.{length, length-append}
 use Rattle.job_run.specs.declared.Job.{Job}
 use Rattle.job_run.specs.Job.{Turn, startJob, followed, runFrom, runAll}
 use Rattle.job_run.proofs.Moves.{Moves}
-use Rattle.job_run.proofs.Ends.{Within, turnsLeft, start-within, turn-within, turn-less}
+use Rattle.job_run.proofs.Ends.{Within, turnsLeft, start-within, turn-within, turn-before, turn-less}
 
 -- what is left of a job: where it ends, and what it still prints
 unfoldable pub restOf : (Job → Turn) → ℕ → Job → Turn
@@ -27,6 +27,7 @@ rest-ended f size j e = rw e
 -- where a loop stands that prints a job: what is left ends as the job does, and prints what is not printed yet
 pub record Printing (f : Job → Turn) (size : ℕ) (j : Job) (printed : ℕ) : Type 0 where
   pub within : Within size j
+  pub first : j .before ≡ 0
   pub ends : restOf f size j .job ≡ runAll f size .job
   pub counts : printed + length (restOf f size j .text) ≡ length (runAll f size .text)
   pub few : printed + 1500 * turnsLeft size (j .ended) (j .at) ≤ 1500 * suc size
@@ -34,6 +35,7 @@ pub record Printing (f : Job → Turn) (size : ℕ) (j : Job) (printed : ℕ) : 
 pub printing-start : (f : Job → Turn) (size : ℕ) → Printing f size startJob 0
 printing-start f size = record {
   within = start-within size;
+  first = refl;
   ends = ap (λ (t : Turn). t .job) (rest-start f size);
   counts = let e = ap (λ (t : Turn). length (t .text)) (rest-start f size) in omega arith;
   few = omega arith;
@@ -82,6 +84,7 @@ module _ (f : Job → Turn) (size : ℕ) (moves : (j : Job) → Moves j size (f 
       let less = turn-less f size moves j (p .within) e in
       record {
         within = turn-within f size moves j (p .within);
+        first = turn-before f size moves j (p .within) ∙ p .first;
         ends = sym (ap (λ (u : Turn). u .job) step) ∙ p .ends;
         counts = let c = counted in let a = length-append (t .text) (rest .text) in omega arith;
         few = omega arith;

@@ -1,5 +1,5 @@
 -- States a whole job (01, Job): records read one after the other, the tank made, its heaters added, its steps run, and the lines that each record prints.
-use Prim.Native.Nat.{ℕ, zero, suc, _+_, _≤_}
+use Prim.Native.Nat.{ℕ, zero, suc, _+_, _*_, _≤_, _<_}
 use mathlib.Core.Bool.{Bool, true, false, cond, not, _&&_}
 use mathlib.Core.Path.{_≡_}
 use mathlib.Core.List.{List, [], _++_}
@@ -71,7 +71,7 @@ abbrev pub noDesign : TankDesign
 noDesign = designOf zeroTankRecord
 
 abbrev pub startJob : Job
-startJob = record { at = 0; ended = false; «has_tank» = false; steps = 0; design = noDesign; tank = zeroTank; report = noReport }
+startJob = record { before = 0; at = 0; ended = false; «has_tank» = false; steps = 0; design = noDesign; tank = zeroTank; report = noReport }
 
 -- ---- one record
 
@@ -88,14 +88,22 @@ pub record Turned (t : Turn) (before after : List ℕ) (r : Printed) : Type 0 wh
   pub short : r .length ≤ 1500
 
 abbrev pub endedJob : Job → Job
-endedJob j = record { at = j .at; ended = true; «has_tank» = j .«has_tank»; steps = j .steps; design = j .design; tank = j .tank; report = j .report }
+endedJob j = record { before = j .before; at = j .at; ended = true; «has_tank» = j .«has_tank»; steps = j .steps; design = j .design; tank = j .tank; report = j .report }
+
+-- the next record's start in the whole input
+abbrev pub offsetOf : Job → ℕ
+offsetOf j = j .before + j .at
+
+-- what is counted stays far from the largest number: a step takes 16 bytes at least, and no input has 2^63
+abbrev pub Countable : Job → Type 0
+Countable j = (16 * j .steps ≤ offsetOf j) × (offsetOf j < 9223372036854775808)
 
 -- a refusal outside a step prints its number and the record's start, and ends the program
 unfoldable pub refusedTurn : Job → ℕ → Turn
-refusedTurn j number = record { job = endedJob j; text = refusalLine number (j .at) }
+refusedTurn j number = record { job = endedJob j; text = refusalLine number (offsetOf j) }
 
 abbrev pub withTank : Job → ℕ → TankDesign → StorageTank → Job
-withTank j next d t = record { at = next; ended = j .ended; «has_tank» = true; steps = j .steps; design = d; tank = t; report = j .report }
+withTank j next d t = record { before = j .before; at = next; ended = j .ended; «has_tank» = true; steps = j .steps; design = d; tank = t; report = j .report }
 
 -- the tank made, or the number of make's refusal
 unfoldable pub madeTurn : Job → ℕ → TankDesign → Turn
@@ -108,7 +116,7 @@ unfoldable pub heaterTurn : Job → ℕ → Heater → Turn
 heaterTurn j next h = cond (ltb (j .design .heaters) maxHeaters) (madeTurn j next (withHeater (j .design) h)) (refusedTurn j 2)
 
 abbrev pub afterStep : Job → ℕ → StorageTank → Report → Job
-afterStep j next t r = record { at = next; ended = j .ended; «has_tank» = j .«has_tank»; steps = j .steps + 1; design = j .design; tank = t; report = r }
+afterStep j next t r = record { before = j .before; at = next; ended = j .ended; «has_tank» = j .«has_tank»; steps = j .steps + 1; design = j .design; tank = t; report = r }
 
 -- a step's lines; refused or not, the job goes on and the index counts it
 unfoldable pub stepTurn : Job → ℕ → Step → Turn
@@ -118,7 +126,7 @@ stepTurn j next a =
 
 -- the input's end ends the program; empty input, and any other refused record, is refused with the number of the reader's answer
 unfoldable pub endTurn : ℕ → Job → ℕ → Turn
-endTurn size j number = cond (eqb (j .at) size && not (eqb (j .at) 0)) (record { job = endedJob j; text = [] }) (refusedTurn j number)
+endTurn size j number = cond (eqb (j .at) size && not (eqb (offsetOf j) 0)) (record { job = endedJob j; text = [] }) (refusedTurn j number)
 
 unfoldable pub turnOf : List ℕ → Job → Reading → Record → Turn
 turnOf bytes j r (Tank t) = madeTurn j (r .next) (designOf t)

@@ -6,9 +6,10 @@ use storage_tank::Report;
 use storage_tank::StorageTank;
 use tank_model::TankDesign;
 
-// Where a job stands: the next record's start, whether the job has ended, whether a tank came, how many steps came, the tank's record and heaters as given,
-// the tank, and the report of its last accepted step.
+// Where a job stands: how many bytes of the input came before those that are lent, and the next record's start among these; whether the job has ended, whether
+// a tank came, how many steps came, the tank's record and heaters as given, the tank, and the report of its last accepted step.
 pub struct Job {
+    pub before: usize,
     pub at: usize,
     pub ended: bool,
     pub has_tank: bool,
@@ -22,4 +23,11 @@ pub struct Job {
 pub struct Printed {
     pub job: Job,
     pub length: usize,
+}
+
+// A job after one record or more, how many bytes of their lines were taken, and whether a write failed: then some are left.
+pub struct Ran {
+    pub job: Job,
+    pub taken: usize,
+    pub failed: bool,
 }

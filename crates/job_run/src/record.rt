@@ -1,7 +1,6 @@
 // One record of a job: the tank made, a heater added, a step run, or the end.
 ghost use mathlib.Core.Path.{_≡_};
-ghost use Prim.Native.Nat.{_<_};
-ghost use Rattle.job_run.specs.Job.{Turned, refusedTurn, madeTurn, heaterTurn, stepTurn, endTurn, turn, endedJob};
+ghost use Rattle.job_run.specs.Job.{Countable, Turned, refusedTurn, madeTurn, heaterTurn, stepTurn, endTurn, turn, endedJob};
 use crate::Job;
 use crate::Printed;
 use job_reader::Record;
@@ -22,15 +21,17 @@ fn end_job(j: Job) -> Job
 
 // E, and the job ends.
 fn refuse(buf: &mut [u8], j: Job, number: u8) -> Printed
+    requires { ⌜ Countable j ⌝ }
     ensures { λ r. ⌜ Turned (refusedTurn j number) (now (buf .entry)) (now (buf .exit)) r ⌝ }
 {
-    let length = job_lines::lines::refusal_line(buf, number, j.at);
+    let length = job_lines::lines::refusal_line(buf, number, j.before + j.at);
     let job = end_job(j);
     Printed { job, length }
 }
 
 // A tank with these heaters, or the refusal of making it.
 pub fn make_tank(buf: &mut [u8], j: Job, next: usize, design: TankDesign) -> Printed
+    requires { ⌜ Countable j ⌝ }
     ensures { λ r. ⌜ Turned (madeTurn j next design) (now (buf .entry)) (now (buf .exit)) r ⌝ }
 {
     let m = StorageTank::new(design);
@@ -48,6 +49,7 @@ pub fn make_tank(buf: &mut [u8], j: Job, next: usize, design: TankDesign) -> Pri
 
 // A heater more; a ninth is 2.
 pub fn add_heater(buf: &mut [u8], j: Job, next: usize, h: Heater) -> Printed
+    requires { ⌜ Countable j ⌝ }
     ensures { λ r. ⌜ Turned (heaterTurn j next h) (now (buf .entry)) (now (buf .exit)) r ⌝ }
 {
     let d = j.design;
@@ -60,7 +62,7 @@ pub fn add_heater(buf: &mut [u8], j: Job, next: usize, h: Heater) -> Printed
 
 // A step, refused or not: its lines, and the job goes on.
 fn run_step(buf: &mut [u8], j: Job, next: usize, a: Step) -> Printed
-    requires { ⌜ j .steps < 65536 ⌝ }
+    requires { ⌜ Countable j ⌝ }
     ensures { λ r. ⌜ Turned (stepTurn j next a) (now (buf .entry)) (now (buf .exit)) r ⌝ }
 {
     let before = j.tank;
@@ -79,12 +81,13 @@ fn run_step(buf: &mut [u8], j: Job, next: usize, a: Step) -> Printed
 
 // No record: the input's end, or a refusal with the number of the reader's answer.
 pub fn end_or_refuse(buf: &mut [u8], size: usize, j: Job, number: u8) -> Printed
+    requires { ⌜ Countable j ⌝ }
     ensures { λ r. ⌜ Turned (endTurn size j number) (now (buf .entry)) (now (buf .exit)) r ⌝ }
 {
     if j.at != size {
         return refuse(buf, j, number);
     }
-    if j.at == 0 {
+    if j.before + j.at == 0 {
         return refuse(buf, j, number);
     }
     let job = end_job(j);
@@ -93,7 +96,7 @@ pub fn end_or_refuse(buf: &mut [u8], size: usize, j: Job, number: u8) -> Printed
 
 // The next record of a job: its lines into the lent buffer, and the job after it.
 pub fn next_record(buf: &mut [u8], bytes: &[u8], j: Job) -> Printed
-    requires { ⌜ j .steps < 65536 ⌝ }
+    requires { ⌜ Countable j ⌝ }
     ensures { λ r. ⌜ Turned (turn (now (bytes .entry)) j) (now (buf .entry)) (now (buf .exit)) r ⌝ }
 {
     let d = j.design;

@@ -91,6 +91,7 @@ pub fn start() -> Job
     let tank = storage_tank::make::zero_tank();
     let report = no_report();
     Job {
+        before: 0,
         at: 0,
         ended: false,
         has_tank: false,

@@ -3,7 +3,7 @@ use Prim.Native.Nat.{ℕ, _+_, _≤_}
 use native.Mathlib.Omega.{arith}
 use mathlib.Core.Bool.{Bool, true, false, cond}
 use mathlib.Core.List.{List}
-use mathlib.Core.Path.{_≡_, sym, ap, _∙_}
+use mathlib.Core.Path.{_≡_, refl, sym, ap, _∙_}
 use lib.Dec.{eqb}
 use lib.ListN.{length, take, drop, length-drop}
 use lib.Seq.{drop-drop}
@@ -11,7 +11,7 @@ use Rattle.job_lines.specs.Put.{written, written-first}
 use Rattle.job_run.specs.declared.Job.{Job}
 use Rattle.job_run.specs.Job.{Turn, startJob, turn, jobText}
 use Rattle.job_run.proofs.Moves.{turn-moves}
-use Rattle.job_run.proofs.Ends.{Within, start-within, turn-within}
+use Rattle.job_run.proofs.Ends.{Within, start-within, turn-within, turn-before}
 use Rattle.job_run.proofs.Rest.{restOf, rest-start, rest-ended, rest-turn}
 use Rattle.replay.specs.Same.{sameText, beginsWith}
 use Rattle.replay.proofs.Same.{same-parts, same-end, begins-fits}
@@ -19,12 +19,14 @@ use Rattle.replay.proofs.Same.{same-parts, same-end, begins-fits}
 -- where the comparison stands: what is left of the stored lines, against what is left of the job, decides
 pub record Comparing (bytes stored : List ℕ) (j : Job) (at : ℕ) : Type 0 where
   pub within : Within (length bytes) j
+  pub first : j .before ≡ 0
   pub placed : at ≤ length stored
   pub decides : sameText stored (jobText bytes) ≡ sameText (drop at stored) (restOf (turn bytes) (length bytes) j .text)
 
 pub comparing-start : (bytes stored : List ℕ) → Comparing bytes stored startJob 0
 comparing-start bytes stored = record {
   within = start-within (length bytes);
+  first = refl;
   placed = omega arith;
   decides = ap (λ (t : Turn). sameText stored (t .text)) (sym (rest-start (turn bytes) (length bytes)));
 }
@@ -46,6 +48,7 @@ module _ (bytes stored : List ℕ) (j : Job) (at : ℕ) (c : Comparing bytes sto
       let placed = c .placed in
       record {
         within = turn-within (turn bytes) (length bytes) (λ i. turn-moves i bytes) j (c .within);
+        first = turn-before (turn bytes) (length bytes) (λ i. turn-moves i bytes) j (c .within) ∙ c .first;
         placed = omega arith;
         decides = rw (drop-drop (length (turn bytes j .text)) at stored) at (parted e true h);
       }

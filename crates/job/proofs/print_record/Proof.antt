@@ -1,5 +1,5 @@
--- `print_record` meets its contract (01, Job): the lines written are the first of the buffer, which is never too small.
-use mathlib.Core.Path.{sym}
+-- `print_record` meets its contract (01, Job): the lines handed on are the first of the buffer, which is never too small.
+use mathlib.Core.Path.{sym, _∙_}
 use lib.Seq.{length-take-le}
 use borrow.Author.Needs.{needs}
 use Rattle.job.proofs.print_record.Statement.{statement}
@@ -14,17 +14,24 @@ slice-aggregate-next-record c = search needs
 next-record-requires : tie.Need-next-record-requires
 next-record-requires c κs = search needs
 
+slice-aggregate-send : tie.Need-slice-aggregate-send
+slice-aggregate-send c = search needs
+
 array-share-prefix-lines : tie.Need-array-share-prefix-lines
 array-share-prefix-lines c = search needs
 
-slice-aggregate-write-all : tie.Need-slice-aggregate-write-all
-slice-aggregate-write-all c = sym (length-take-le _ _ (search needs))
+slice-aggregate-send-2 : tie.Need-slice-aggregate-send-2
+slice-aggregate-send-2 c = sym (length-take-le _ _ (search needs))
 
-write-all-requires : tie.Need-write-all-requires
-write-all-requires c κs = search needs
+send-requires : tie.Need-send-requires
+send-requires c κs = search needs
 
 returns : tie.Need-returns
-returns c = search needs
+returns c =
+    let sent = c .before .send .ensures in
+    let t = c .before .before .before .before .before .next-record .ensures in
+    let e = sym (slice-aggregate-send-2 (c .before .before)) ∙ t .counts in
+    record { goes = t .goes; within = rw e at (sent .within); told = rw e at (sent .told); short = rw (t .counts) at (t .short) }
 
 pub print-record-spec : {M : Type 1} → statement M
 print-record-spec =
@@ -33,7 +40,8 @@ print-record-spec =
     buffer-requires
     slice-aggregate-next-record
     next-record-requires
+    slice-aggregate-send
     array-share-prefix-lines
-    slice-aggregate-write-all
-    write-all-requires
+    slice-aggregate-send-2
+    send-requires
     returns)

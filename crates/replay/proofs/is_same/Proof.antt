@@ -35,6 +35,7 @@ next-record-requires c κs =
     let w = c .before .before .before .before .loop .inv .within in
     let counted = w .counted in
     let placed = w .placed in
+    let first = c .before .before .before .before .loop .inv .first in
     omega (arith, c .before .before .before .before .before .before .before .before .pre)
 
 array-share-prefix-lines : tie.Need-array-share-prefix-lines Inv-loop μ-loop

@@ -18,6 +18,9 @@ returns : tie.Need-returns
 unfolding endTurn
 returns c = rw (ne-eqb _ _ (c .before .before .before .before .if1 .taken)) (c .before .before .refuse .ensures)
 
+add-if2 : tie.Need-add-if2
+add-if2 c = search needs
+
 refuse-requires-2 : tie.Need-refuse-requires-2
 refuse-requires-2 c κs = search needs
 
@@ -42,6 +45,7 @@ end-or-refuse-spec =
     refuse-requires
     same-length
     returns
+    add-if2
     refuse-requires-2
     same-length-2
     returns-2

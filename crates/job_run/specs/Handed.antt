@@ -1,0 +1,37 @@
+-- States how far a program came that prints a job record by record and stops at the first write that fails (01, Job): all its text was taken, or a beginning.
+use Prim.Native.Nat.{ℕ, suc, _≤_, _<_}
+use mathlib.Core.Bool.{true, false}
+use mathlib.Core.List.{List, _++_}
+use mathlib.Core.Path.{_≡_}
+use lib.Dec.{ltb}
+use lib.ListN.{length}
+use Rattle.job_run.specs.declared.Job.{Job}
+use Rattle.job_run.specs.declared.Ran.{Ran}
+use Rattle.job_run.specs.Job.{Turn, startJob, runFrom, runAll}
+
+-- one record's lines, which are never long: a write has failed just where some are left
+pub record Sends (t : Turn) (r : Ran) : Type 0 where
+  pub goes : r .job ≡ t .job
+  pub within : r .taken ≤ length (t .text)
+  pub told : r .failed ≡ ltb (r .taken) (length (t .text))
+  pub short : length (t .text) ≤ 1500
+
+-- the first so many records: the job after them, and what they print
+abbrev pub firstTurns : (Job → Turn) → ℕ → Turn
+firstTurns f k = runFrom f k false startJob
+
+-- the lines of the first `turns` records were taken whole, those of the next not to their end, and of those after it none
+pub record Cut (f : Job → Turn) (j : Job) (taken : ℕ) : Type 0 where
+  pub turns : ℕ
+  pub goes : firstTurns f turns .job ≡ j
+  pub before : length (firstTurns f turns .text) ≤ taken
+  pub within : taken < length (firstTurns f (suc turns) .text)
+
+-- where no write failed, the job has run to its end and its whole text was taken
+pub record Handed (f : Job → Turn) (size : ℕ) (r : Ran) : Type 0 where
+  pub whole : r .failed ≡ false → (r .job ≡ runAll f size .job) × (r .taken ≡ length (runAll f size .text))
+  pub cut : r .failed ≡ true → Cut f (r .job) (r .taken)
+
+-- the first list begins the second
+abbrev pub Begins : List ℕ → List ℕ → Type 0
+Begins xs ys = (rest : List ℕ) × (xs ++ rest ≡ ys)

@@ -1,0 +1,112 @@
+-- `input::take_window` meets its contract (01, Job): the window is what was held and what was read after it, and what its records leave begins the next.
+use native.Mathlib.Omega.{arith}
+use mathlib.Core.Bool.{true≢false}
+use mathlib.Core.Path.{sym}
+use Rattle.job_windows.proofs.Taken.{window-length, stands, ran-within, moved-size, taken}
+use borrow.Author.Needs.{needs}
+use Rattle.job_windows.proofs.input.take_window.Statement.{statement}
+use Rattle.job_windows.proofs.input.take_window.Tie as tie
+
+fill-after-requires : tie.Need-fill-after-requires
+fill-after-requires c κs = search needs
+
+same-length : tie.Need-same-length
+same-length c =
+    c .before .before .before .fill-after .ensures .1 .0
+
+returns : tie.Need-returns
+returns c =
+    record { size = c .before .before .before .fill-after .ensures .1 .0; taken = λ e. absurd (true≢false e) }
+
+add-end : tie.Need-add-end
+add-end c = search needs
+
+slice-reshare-prefix-run-window : tie.Need-slice-reshare-prefix-run-window
+slice-reshare-prefix-run-window c = search needs
+
+slice-aggregate-run-window : tie.Need-slice-aggregate-run-window
+slice-aggregate-run-window c =
+    let s = c .before .before .before .before .before .before .before .before .before in
+    let f = c .before .before .before .before .before .fill-after in
+    sym (window-length (s .args .history) (s .args .held) (f .result .count) (s .args .buf .now) (f .last .1 .0) (s .args .job) (s .pre) (f .ensures .0) (f .ensures .1 .0) (f .ensures .1 .1))
+
+run-window-requires : tie.Need-run-window-requires
+run-window-requires c κs =
+    let s = c .before .before .before .before .before .before .before .before .before in
+    let f = c .before .before .before .before .before .fill-after in
+    let l = window-length (s .args .history) (s .args .held) (f .result .count) (s .args .buf .now) (f .last .1 .0) (s .args .job) (s .pre) (f .ensures .0) (f .ensures .1 .0) (f .ensures .1 .1) in
+    let w = stands (s .args .history) (s .args .held) (f .result .count) (s .args .buf .now) (f .last .1 .0) (s .args .job) (s .pre) (f .ensures .0) (f .ensures .1 .0) (f .ensures .1 .1) in
+    let whole = s .pre .0 in
+    let bound = s .pre .4 in
+    let fits = f .ensures .1 .1 in
+    (w .placed, omega arith, w .counted, omega arith)
+
+same-length-2 : tie.Need-same-length-2
+same-length-2 c =
+    c .before .before .before .before .before .before .before .before .fill-after .ensures .1 .0
+
+returns-2 : tie.Need-returns-2
+returns-2 c =
+    record { size = c .before .before .before .before .before .before .before .before .fill-after .ensures .1 .0; taken = λ e. absurd (true≢false e) }
+
+move-down-requires : tie.Need-move-down-requires
+move-down-requires c κs =
+    let s = c .before .before .before .before .before .before .before .before .before .before .before .before .before in
+    let f = c .before .before .before .before .before .before .before .before .before .fill-after in
+    let r = c .before .before .before .run-window in
+    let size = f .ensures .1 .0 in
+    let fits = f .ensures .1 .1 in
+    (ran-within (s .args .history) (s .args .held) (f .result .count) (s .args .buf .now) (f .last .1 .0) (s .args .job) (s .pre) (f .ensures .0) (f .ensures .1 .0) (f .ensures .1 .1) (r .result) (r .ensures) .0, omega arith)
+
+moved-up-requires : tie.Need-moved-up-requires
+moved-up-requires c κs =
+    let s = c .before .before .before .before .before .before .before .before .before .before .before .before .before .before .before .before in
+    let f = c .before .before .before .before .before .before .before .before .before .before .before .before .fill-after in
+    let r = c .before .before .before .before .before .before .run-window in
+    let w = ran-within (s .args .history) (s .args .held) (f .result .count) (s .args .buf .now) (f .last .1 .0) (s .args .job) (s .pre) (f .ensures .0) (f .ensures .1 .0) (f .ensures .1 .1) (r .result) (r .ensures) in
+    let at = w .0 in
+    let before = w .2 in
+    let whole = s .pre .0 in
+    let bound = s .pre .4 in
+    let fits = f .ensures .1 .1 in
+    omega arith
+
+sub-t15 : tie.Need-sub-t15
+sub-t15 c =
+    let s = c .before .before .before .before .before .before .before .before .before .before .before .before .before .before .before .before .before in
+    let f = c .before .before .before .before .before .before .before .before .before .before .before .before .before .fill-after in
+    let r = c .before .before .before .before .before .before .before .run-window in
+    ran-within (s .args .history) (s .args .held) (f .result .count) (s .args .buf .now) (f .last .1 .0) (s .args .job) (s .pre) (f .ensures .0) (f .ensures .1 .0) (f .ensures .1 .1) (r .result) (r .ensures) .0
+
+same-length-3 : tie.Need-same-length-3
+same-length-3 c =
+    let s = c .before .before .before .before .before .before .before .before .before .before .before .before .before .before .before .before .before in
+    let f = c .before .before .before .before .before .before .before .before .before .before .before .before .before .fill-after in
+    let r = c .before .before .before .before .before .before .before .run-window in
+    moved-size (s .args .history) (s .args .held) (f .result .count) (s .args .buf .now) (f .last .1 .0) (s .args .job) (s .pre) (f .ensures .0) (f .ensures .1 .0) (f .ensures .1 .1) (r .result) (r .ensures) (c .before .before .before .before .before .if2 .left) (c .before .before .before .move-down .last .0) (c .before .before .before .move-down .ensures) (c .moved-up .result) (c .moved-up .ensures)
+
+returns-3 : tie.Need-returns-3
+returns-3 c =
+    let s = c .before .before .before .before .before .before .before .before .before .before .before .before .before .before .before .before .before in
+    let f = c .before .before .before .before .before .before .before .before .before .before .before .before .before .fill-after in
+    let r = c .before .before .before .before .before .before .before .run-window in
+    taken (s .args .history) (s .args .held) (f .result .count) (s .args .buf .now) (f .last .1 .0) (s .args .job) (s .pre) (f .ensures .0) (f .ensures .1 .0) (f .ensures .1 .1) (r .result) (r .ensures) (c .before .before .before .before .before .if2 .left) (c .before .before .before .move-down .last .0) (c .before .before .before .move-down .ensures) (c .moved-up .result) (c .moved-up .ensures)
+
+pub take-window-spec : {M : Type 1} → statement M
+take-window-spec =
+    tie.close
+    (tie.spec
+    fill-after-requires
+    same-length
+    returns
+    add-end
+    slice-reshare-prefix-run-window
+    slice-aggregate-run-window
+    run-window-requires
+    same-length-2
+    returns-2
+    move-down-requires
+    moved-up-requires
+    sub-t15
+    same-length-3
+    returns-3)

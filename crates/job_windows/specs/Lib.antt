@@ -1,0 +1,3 @@
+-- The definitions of `job_windows`: the two kinds of lines, and what the loops over windows keep.
+pub mod Kinds
+pub mod Input

@@ -1,0 +1,2 @@
+-- The definitions of `streams`: what became of a text.
+pub mod Whole
