@@ -5,6 +5,7 @@ import importlib.util
 import io
 import os
 import pty
+import re
 import select
 import struct
 import subprocess
@@ -61,14 +62,22 @@ def loaded():
 
 
 def at_once(*words, given=b""):
-    """Runs the command in this process, which is quicker; answers as day_command does."""
+    """Runs the command in this process, which is quicker, and without progress; answers as day_command does."""
     out, said = (io.TextIOWrapper(io.BytesIO(), encoding="utf-8") for _ in range(2))
     streams = dict(stdin=io.TextIOWrapper(io.BytesIO(given)), stdout=out, stderr=said, argv=["day/day"] + list(words))
-    with mock.patch.multiple(sys, **streams), mock.patch("signal.signal"):
+    with mock.patch.multiple(sys, **streams), mock.patch("signal.signal"), mock.patch("progress.begin"):
         status = COMMAND.main()
     for stream in (out, said):
         stream.flush()
     return subprocess.CompletedProcess(words, status, out.buffer.getvalue(), said.buffer.getvalue())
+
+
+PROGRESS = re.compile(rb"^(reading|writing|drawing|looking back|building|job: step|history: step).*\n", re.MULTILINE)
+
+
+def but_progress(said):
+    """What a command said, but for its progress: another's work may have made it slow."""
+    return PROGRESS.sub(b"", said)
 
 
 class Folder(unittest.TestCase):

@@ -81,21 +81,26 @@ class Interrupted(Slow):
 
 
 class Said(Slow):
+    def begun(self, steps, pause):
+        command = [sys.executable, os.path.join(DAY, "day"), "run", self.day, "--programs", self.programs(steps, pause)]
+        self.began = time.monotonic()
+        return subprocess.Popen(command, cwd=ROOT, stdout=subprocess.PIPE, stderr=subprocess.PIPE)
+
     def test_progress(self):
-        done = day_command("run", self.day, "--programs", self.programs(40, 0.04))
-        self.assertEqual(done.returncode, 0)
-        self.assertRegex(done.stderr, rb"job: step [0-9]+ of 40\n")
-        self.assertIn(b"Refused, steps 0 to 39: refusal 7.", done.stdout)
+        """Not before a second has gone."""
+        process = self.begun(40, 0.04)
+        first, seen = process.stderr.readline(), time.monotonic()
+        out, _ = process.communicate(timeout=60)
+        self.assertEqual(process.returncode, 0)
+        self.assertRegex(first, rb"^job: step [0-9]+ of 40\n$")
+        self.assertGreaterEqual(seen - self.began, 1)
+        self.assertIn(b"Refused, steps 0 to 39: refusal 7.", out)
 
     def test_no_progress_where_it_is_quick(self):
-        programs = self.programs(40, 0.005)
-        for _ in range(20):
-            began = time.monotonic()
-            done = day_command("run", self.day, "--programs", programs)
-            # Another's work may have made it slow.
-            if time.monotonic() - began < 1:
-                return self.assertEqual(done.stderr, b"")
-        self.fail("not once within a second")
+        said = self.begun(40, 0.005).communicate(timeout=60)[1]
+        # Another's work may have made it slow.
+        if time.monotonic() - self.began < 1:
+            self.assertEqual(said, b"")
 
     def test_job_in_place_of_a_text(self):
         """run takes a job as well, and shows the same."""

@@ -7,7 +7,7 @@ import sys
 import unittest
 from unittest import mock
 
-from common import DAY, ROOT, Folder, Terminal, at_once, day_of, tank
+from common import DAY, ROOT, Folder, Terminal, at_once, but_progress, day_of, tank
 import inputs
 import progress
 import records
@@ -87,7 +87,7 @@ class Given(Folder):
     def test_standard_input_closed(self):
         closed = "%s %s run - <&-" % (sys.executable, os.path.join(DAY, "day"))
         done = subprocess.run(["sh", "-c", closed], cwd=ROOT, stdout=subprocess.PIPE, stderr=subprocess.PIPE)
-        self.assertEqual((done.returncode, done.stderr), (2, b"day run: standard input is closed\n"))
+        self.assertEqual((done.returncode, but_progress(done.stderr)), (2, b"day run: standard input is closed\n"))
 
     def test_the_table_names_standard_input(self):
         done = at_once("run", "-", given=JOB)
@@ -168,9 +168,9 @@ class CannotWrite(Folder):
         with open("/dev/full", "wb") as full:
             done = subprocess.run(command, stdout=full, stderr=subprocess.PIPE)
         said = b"day run: standard output cannot be written: no space is left for it\n"
-        self.assertEqual((done.returncode, done.stderr), (2, said))
+        self.assertEqual((done.returncode, but_progress(done.stderr)), (2, said))
         done = subprocess.run(["sh", "-c", " ".join(command) + " >&-"], stderr=subprocess.PIPE)
-        self.assertEqual((done.returncode, done.stderr), (2, b"day run: standard output is closed\n"))
+        self.assertEqual((done.returncode, but_progress(done.stderr)), (2, b"day run: standard output is closed\n"))
 
     def test_to_standard_output_by_its_short_name(self):
         done = at_once("run", self.day, "-o", "-")
@@ -193,7 +193,7 @@ class Progress(Folder):
         process = self.begun(subprocess.PIPE)
         first = process.stderr.readline()
         out, said = process.communicate(TEXT[-1:].encode(), timeout=30)
-        self.assertEqual((process.returncode, b"clock" in out, said), (0, True, b""))
+        self.assertEqual((process.returncode, b"clock" in out, but_progress(said)), (0, True, b""))
         self.assertEqual(first, b"reading standard input: %d bytes so far\n" % (len(TEXT) - 1))
 
     def test_one_line_at_a_terminal(self):
@@ -204,8 +204,8 @@ class Progress(Folder):
             out, _ = process.communicate(TEXT[-1:].encode(), timeout=30)
             shown = terminal.until(lambda shown: shown.endswith(b" \r"))
         self.assertEqual((process.returncode, b"clock" in out), (0, True))
-        # Written anew, and taken away at the end.
-        self.assertEqual(shown.replace(words, b""), b"\r" + b" " * (len(words) - 1) + b"\r")
+        # Written anew, and taken away at the end; something else may have been shown between.
+        self.assertRegex(shown.replace(words, b""), rb"^(\r[a-z][^\r\n]*)*\r +\r$")
 
     def test_a_long_name_stays_on_one_line(self):
         pipe = self.path("long" * 40)
