@@ -19,6 +19,7 @@ use std::io::{Read, Write};
 const USAGE: &str = "\
 judge answer                                  a job from standard input, its lines to standard output
 judge answer put                              the same, with records that put in layers and flags (kind 256)
+judge answer long                             the same as `judge answer`, of a job of any length
 judge mix VOLUME LAYER...                     a mixing of layers of this volume, bottom first
 judge make SHAPE SEED                         the bytes of a random job
 judge sample-day                              the bytes of the sample day (judge/src/sample_day.rs)
@@ -134,12 +135,17 @@ fn run() {
             .unwrap_or_else(|_| stop(&format!("{word} is no number")))
     };
     let fine = match words[..] {
-        ["answer", ref put @ ..] if put.is_empty() || *put == ["put"] => {
+        ["answer", ref how @ ..] if how.is_empty() || *how == ["put"] || *how == ["long"] => {
             let mut bytes = Vec::new();
             std::io::stdin()
                 .read_to_end(&mut bytes)
                 .expect("standard input can be read");
-            print!("{}", words::text(&oracle::answer(&bytes, !put.is_empty(), false)));
+            let lines = if *how == ["long"] {
+                oracle::answer_to_all(&bytes, false, false)
+            } else {
+                oracle::answer(&bytes, !how.is_empty(), false)
+            };
+            print!("{}", words::text(&lines));
             true
         }
         ["mix", volume, ref layers @ ..] => {

@@ -233,9 +233,13 @@ pub fn step_lines(index: usize, outcome: &Outcome, judged: &Judged, lines: &mut 
     }
 }
 
-/// The lines of a job. `put` admits records that set layers and flags.
+/// The lines of a job, of which `job` reads the first 65,536 bytes. `put` admits records that set layers and flags.
 pub fn answer(bytes: &[u8], put: bool, in_parts: bool) -> Vec<Line> {
-    let bytes = &bytes[..bytes.len().min(MOST_BYTES)];
+    answer_to_all(&bytes[..bytes.len().min(MOST_BYTES)], put, in_parts)
+}
+
+/// The lines of a job of any length: one tank of the Rust from its first step to its last.
+pub fn answer_to_all(bytes: &[u8], put: bool, in_parts: bool) -> Vec<Line> {
     let mut lines = Vec::new();
     let mut at = 0;
     let mut making: Option<Making> = None;
