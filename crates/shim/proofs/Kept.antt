@@ -63,6 +63,19 @@ bytes-kept (suc number) lent flags l = refl
 
 -- ---- the exported step
 
+-- the ten arrays after a call are those before it, place by place and byte by byte
+pub record Kept (counts : List ℕ) (numbers temps heaters : List Float) (thermostats flags : List ℕ) (totals figures : List Float) (lineFlags rounds : List ℕ) (counts' : List ℕ) (numbers' temps' heaters' : List Float) (thermostats' flags' : List ℕ) (totals' figures' : List Float) (lineFlags' rounds' : List ℕ) : Type 0 where
+  pub counts-kept : counts' ≡ counts
+  pub numbers-kept : numbers' ≡ numbers
+  pub temps-kept : temps' ≡ temps
+  pub heaters-kept : heaters' ≡ heaters
+  pub thermostats-kept : thermostats' ≡ thermostats
+  pub flags-kept : flags' ≡ flags
+  pub totals-kept : totals' ≡ totals
+  pub figures-kept : figures' ≡ figures
+  pub line-flags-kept : lineFlags' ≡ lineFlags
+  pub rounds-kept : rounds' ≡ rounds
+
 module _ (counts : List ℕ) (numbers temps heaters : List Float) (thermostats flags : List ℕ) (counts-long : length counts ≡ 2) (numbers-long : length numbers ≡ 6) (heaters-long : length heaters ≡ 24) (totals figures : List Float) (lineFlags rounds : List ℕ) (totals-long : length totals ≡ 4) (figures-long : length figures ≡ 24) (rounds-long : length rounds ≡ 8) where
   abbrev lentTank : StorageTank
   lentTank = tankIn counts numbers temps heaters thermostats flags
@@ -76,20 +89,7 @@ module _ (counts : List ℕ) (numbers temps heaters : List Float) (thermostats f
   abbrev report₀ : ReportHeld lentReport totals figures rounds
   report₀ = report-held-as-lent totals figures lineFlags rounds totals-long figures-long rounds-long
 
-  -- the arrays after the call are those before it, every byte as it was lent
-  pub record Kept (counts' : List ℕ) (numbers' temps' heaters' : List Float) (thermostats' flags' : List ℕ) (totals' figures' : List Float) (lineFlags' rounds' : List ℕ) : Type 0 where
-    pub counts-kept : counts' ≡ counts
-    pub numbers-kept : numbers' ≡ numbers
-    pub temps-kept : temps' ≡ temps
-    pub heaters-kept : heaters' ≡ heaters
-    pub thermostats-kept : thermostats' ≡ thermostats
-    pub flags-kept : flags' ≡ flags
-    pub totals-kept : totals' ≡ totals
-    pub figures-kept : figures' ≡ figures
-    pub line-flags-kept : lineFlags' ≡ lineFlags
-    pub rounds-kept : rounds' ≡ rounds
-
-  pub refused-keeps : (a : Step) (number : ℕ) (counts' : List ℕ) (numbers' temps' heaters' : List Float) (thermostats' flags' : List ℕ) (totals' figures' : List Float) (lineFlags' rounds' : List ℕ) → StepLeft (stepped lentTank lentReport a) thermostats flags lineFlags number counts' numbers' temps' heaters' thermostats' flags' totals' figures' lineFlags' rounds' → 0 < number → Kept counts' numbers' temps' heaters' thermostats' flags' totals' figures' lineFlags' rounds'
+  pub refused-keeps : (a : Step) (number : ℕ) (counts' : List ℕ) (numbers' temps' heaters' : List Float) (thermostats' flags' : List ℕ) (totals' figures' : List Float) (lineFlags' rounds' : List ℕ) → StepLeft (stepped lentTank lentReport a) thermostats flags lineFlags number counts' numbers' temps' heaters' thermostats' flags' totals' figures' lineFlags' rounds' → 0 < number → Kept counts numbers temps heaters thermostats flags totals figures lineFlags rounds counts' numbers' temps' heaters' thermostats' flags' totals' figures' lineFlags' rounds'
   refused-keeps a number counts' numbers' temps' heaters' thermostats' flags' totals' figures' lineFlags' rounds' s l =
       let above = subst (λ (n : ℕ). 0 < n) (s .number-is) l in
       let same = refused-step lentTank lentReport a above in

@@ -1,5 +1,6 @@
--- Proves what the bytes that an exported step leaves say (01, The four calls). Whatever bytes are lent, the tank that is read in the arrays after the step is its
--- answer's. Where every byte lent is 0 or 1, every byte left is that of the answer's flag: the step leaves then what the method's answer is written as.
+-- Proves what the bytes that the exported calls leave say (01, The four calls). Whatever bytes are lent, the tank that is read in the arrays after a call is its
+-- answer's. Where every byte lent is 0 or 1, every byte that the step leaves is that of the answer's flag, as if the answer were written in all arrays; so a
+-- refused call through the method leaves them as they were.
 use Prim.Native.Nat.{ℕ, zero, suc, _<_}
 use native.Mathlib.Omega.{arith}
 use mathlib.Core.Path.{_≡_, refl, sym, ap, _∙_, subst}
@@ -10,19 +11,23 @@ use lib.Ieee.{Float}
 use Rattle.numeric.specs.Tabulate.{tabulate, length-tabulate}
 use Rattle.working_order.specs.Order.{maxHeaters}
 use Rattle.tank_model.specs.declared.Step.{Step}
+use Rattle.tank_model.specs.declared.TankDesign.{TankDesign}
+use Rattle.tank_model.specs.Fixed.{fixedOf}
+use Rattle.tank_model.specs.Checks.{makeRefusal}
 use Rattle.tank_model.specs.Work.{End, refused, done, work}
 use Rattle.tank_arrays.specs.Arrays.{heaterIn, fittedIn, heatersOf, thermostatsOf, linesIn}
 use Rattle.tank_arrays.proofs.LentArrays.{places, heaters-back}
 use Rattle.storage_tank.specs.declared.StorageTank.{StorageTank}
 use Rattle.storage_tank.specs.declared.Report.{Report}
 use Rattle.storage_tank.specs.Tank.{fixedIn, stateIn}
-use Rattle.storage_tank.specs.Calls.{answer, stepped}
+use Rattle.storage_tank.specs.Calls.{fittedHeaters, madeOf, made, answer, stepped}
 use Rattle.storage_tank.proofs.Calls.{refused-step}
 use Rattle.shim.specs.Flags.{flagIn, flagsIn, bytesOf, ZeroOrOne}
-use Rattle.shim.specs.Tanks.{tankIn}
-use Rattle.shim.specs.Reports.{reportIn, lineFlagsOf}
-use Rattle.shim.specs.Answers.{bytesLeft, StepLeft, StepAnswered}
+use Rattle.shim.specs.Tanks.{tankIn, TankHeld, TankWritten}
+use Rattle.shim.specs.Reports.{reportIn, lineFlagsOf, ReportHeld}
+use Rattle.shim.specs.Answers.{bytesLeft, MakeAnswered, StepLeft, StepAnswered}
 use Rattle.shim.proofs.Bytes.{flags-back, bytes-back}
+use Rattle.shim.proofs.Kept.{tank-held-as-lent, report-held-as-lent, Kept}
 
 -- ---- 8 flags read in their array, and the heaters with them
 
@@ -38,9 +43,25 @@ module _ (bytes : List ℕ) (long : length bytes ≡ 8) where
   unfolding linesIn lineFlagsOf tabulate
   line-flags-read figures rounds = places false 8 (flagsIn bytes) flags-long
 
+-- a tank that was written is read as it is
+pub written-read : (t : StorageTank) (counts : List ℕ) (numbers temps heaters : List Float) (thermostats flags : List ℕ) → TankWritten t counts numbers temps heaters thermostats flags → length (t .fitted) ≡ maxHeaters → tankIn counts numbers temps heaters thermostats flags ≡ t
+written-read t counts numbers temps heaters thermostats flags w long = rw (w .held .counts-held, w .held .numbers-held, w .held .temps-held, w .held .heaters-held, w .thermostats-written, w .flags-written, flags-back (thermostatsOf (t .fitted)), flags-back (t .flags), heaters-back (t .fitted) long)
+
 fitted-long : (heaters : List Float) (thermostats : List Bool) → length (fittedIn heaters thermostats) ≡ maxHeaters
 unfolding fittedIn
 fitted-long heaters thermostats = length-tabulate (heaterIn heaters thermostats) maxHeaters 0
+
+-- ---- make
+
+made-long : (m : TankDesign) (number : ℕ) → length (madeOf m number .tank .fitted) ≡ maxHeaters
+unfolding madeOf fittedHeaters
+made-long m zero = length-tabulate _ maxHeaters 0
+made-long m (suc number) = refl
+
+-- what is read after make is the tank that it made
+pub made-read : (m : TankDesign) (number : ℕ) (counts : List ℕ) (numbers temps heaters : List Float) (thermostats flags : List ℕ) → MakeAnswered (made m) number counts numbers temps heaters thermostats flags → tankIn counts numbers temps heaters thermostats flags ≡ made m .tank
+unfolding made
+made-read m number counts numbers temps heaters thermostats flags s = written-read (made m .tank) counts numbers temps heaters thermostats flags (s .tank-written) (made-long m (makeRefusal (fixedOf m) (m .initial)))
 
 -- ---- a step keeps its heaters
 
@@ -105,4 +126,32 @@ module _ (counts : List ℕ) (numbers temps heaters : List Float) (thermostats f
             flags-written = s .flags-left ∙ left-written _ _ _ bf flags-of-refused;
           };
           report-written = record { held = s .report-held; flags-written = s .line-flags-left ∙ left-written _ _ _ bl line-flags-of-refused };
+        }
+
+  -- the same of the method: what is read after it is the tank that it hands back
+  pub method-read : (number : ℕ) (counts' : List ℕ) (numbers' temps' heaters' : List Float) (thermostats' flags' : List ℕ) (totals' figures' : List Float) (lineFlags' rounds' : List ℕ) → StepAnswered (stepped lentTank lentReport a) number counts' numbers' temps' heaters' thermostats' flags' totals' figures' lineFlags' rounds' → tankIn counts' numbers' temps' heaters' thermostats' flags' ≡ stepped lentTank lentReport a .tank
+  method-read number counts' numbers' temps' heaters' thermostats' flags' totals' figures' lineFlags' rounds' s =
+      written-read (stepped lentTank lentReport a .tank) counts' numbers' temps' heaters' thermostats' flags' (s .tank-written) (ap length (fitted-kept lentTank lentReport a) ∙ fitted-long heaters (flagsIn thermostats))
+
+  -- through the method, a refused step leaves the numbers as they were, and the bytes that are written of what was read in those lent
+  module _ (counts-long : length counts ≡ 2) (numbers-long : length numbers ≡ 6) (heaters-long : length heaters ≡ 24) (totals-long : length totals ≡ 4) (figures-long : length figures ≡ 24) (rounds-long : length rounds ≡ 8) where
+    pub method-refused-keeps : (number : ℕ) (counts' : List ℕ) (numbers' temps' heaters' : List Float) (thermostats' flags' : List ℕ) (totals' figures' : List Float) (lineFlags' rounds' : List ℕ) → StepAnswered (stepped lentTank lentReport a) number counts' numbers' temps' heaters' thermostats' flags' totals' figures' lineFlags' rounds' → 0 < number → Kept counts numbers temps heaters (bytesOf (flagsIn thermostats)) (bytesOf (flagsIn flags)) totals figures (bytesOf (flagsIn lineFlags)) rounds counts' numbers' temps' heaters' thermostats' flags' totals' figures' lineFlags' rounds'
+    method-refused-keeps number counts' numbers' temps' heaters' thermostats' flags' totals' figures' lineFlags' rounds' s l =
+        let above = subst (λ (n : ℕ). 0 < n) (s .number-is) l in
+        let same = refused-step lentTank lentReport a above in
+        let t₀ = tank-held-as-lent counts numbers temps heaters thermostats flags counts-long numbers-long heaters-long in
+        let r₀ = report-held-as-lent totals figures lineFlags rounds totals-long figures-long rounds-long in
+        let t = subst (λ (x : StorageTank). TankHeld x counts' numbers' temps' heaters') (same .0) (s .tank-written .held) in
+        let r = subst (λ (x : Report). ReportHeld x totals' figures' rounds') (same .1) (s .report-written .held) in
+        record {
+          counts-kept = t .counts-held ∙ sym (t₀ .counts-held);
+          numbers-kept = t .numbers-held ∙ sym (t₀ .numbers-held);
+          temps-kept = t .temps-held ∙ sym (t₀ .temps-held);
+          heaters-kept = t .heaters-held ∙ sym (t₀ .heaters-held);
+          thermostats-kept = s .tank-written .thermostats-written ∙ ap bytesOf (ap thermostatsOf (fitted-kept lentTank lentReport a) ∙ thermostats-read thermostats thermostats-long heaters);
+          flags-kept = s .tank-written .flags-written ∙ ap bytesOf (flags-of-refused above);
+          totals-kept = r .totals-held ∙ sym (r₀ .totals-held);
+          figures-kept = r .figures-held ∙ sym (r₀ .figures-held);
+          line-flags-kept = s .report-written .flags-written ∙ ap bytesOf (line-flags-of-refused above);
+          rounds-kept = r .rounds-held ∙ sym (r₀ .rounds-held);
         }
