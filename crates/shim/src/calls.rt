@@ -167,7 +167,7 @@ pub extern "C" fn huszmago_step(
         ambient: numbers[4],
         timestep: numbers[5],
     };
-    let fitted = crate::flags::flags_in(*thermostats);
+    let has_thermostat = crate::flags::flags_in(*thermostats);
     let there = crate::flags::present_in(*present);
     let mut after = *temps;
     let mut on = crate::flags::flags_in(*flags);
@@ -178,7 +178,7 @@ pub extern "C" fn huszmago_step(
         c,
         counts[1],
         heaters,
-        &fitted,
+        &has_thermostat,
         feed,
         asked[0],
         volumes,
