@@ -1,6 +1,8 @@
 /* The calls make, step and mix, asked from outside: a request is a byte (N make, T step, M mix), a 4-byte length and the bytes of what is lent, in the order of
    the call's arguments; the answer is a 4-byte length and lines with the number and every place lent after the call. A length of 2^32 - 1 says: no such call.
-   `server wrong CALL` turns one bit of an unused or refused place after each such call, to show that the comparison notices. */
+   Each step is asked of the method too, on the same memory: it must leave the same, with every flag written as 0 or 1.
+   `server wrong CALL` turns one bit of an unused or refused place after each such call, to show that the comparison notices; `server wrong B` takes for
+   present, in a step, only what is lent as 1. */
 #include "shim.h"
 #include <stdio.h>
 #include <stdlib.h>
@@ -55,7 +57,7 @@ static void say_counts(const char *name, const size_t *xs, size_t n) {
     say_end();
 }
 
-static void say_bools(const char *name, const uint8_t *xs, size_t n) {
+static void say_bytes(const char *name, const uint8_t *xs, size_t n) {
     say(name);
     for (size_t i = 0; i < n; i++) say_count(xs[i]);
     say_end();
@@ -64,6 +66,23 @@ static void say_bools(const char *name, const uint8_t *xs, size_t n) {
 /* Wrong on purpose, where it is asked for: the last bit of a double's payload. */
 static void spoil(int call, double *x) {
     if (wrong == call) *(unsigned char *)x ^= 1;
+}
+
+static void misread(step_arrays *a) {
+    for (size_t i = 0; wrong == 'B' && i < 2 * HEATERS; i++) a->present[i] = a->present[i] == 1;
+}
+
+/* Flags as they are written. */
+static void write_flags(uint8_t *xs) {
+    for (size_t i = 0; i < HEATERS; i++) xs[i] = xs[i] != 0;
+}
+
+/* Whether the method leaves in t and r what the step left in `tank` and `report`, with every flag written. */
+static int method_leaves(tank_arrays t, report_arrays r, const step_arrays *a, uint8_t number, tank_arrays tank, report_arrays report) {
+    write_flags(tank.thermostats);
+    write_flags(tank.flags);
+    write_flags(report.flags);
+    return demand_hot_water(&t, &r, a) == number && memcmp(&t, &tank, sizeof t) == 0 && memcmp(&r, &report, sizeof r) == 0;
 }
 
 static void take_tank(tank_arrays *t) {
@@ -80,8 +99,8 @@ static void say_tank(const tank_arrays *t) {
     say_doubles("numbers", t->numbers, 6);
     say_doubles("temps", t->temps, LAYERS);
     say_doubles("heaters", t->heaters, 3 * HEATERS);
-    say_bools("thermostats", t->thermostats, HEATERS);
-    say_bools("flags", t->flags, HEATERS);
+    say_bytes("thermostats", t->thermostats, HEATERS);
+    say_bytes("flags", t->flags, HEATERS);
 }
 
 static void answer_make(void) {
@@ -110,15 +129,21 @@ static void answer_step(void) {
     take(a.present, sizeof a.present);
     take(a.points, sizeof a.points);
     memcpy(&kept, &a, sizeof a);
+    misread(&a);
+    const tank_arrays tank = t;
+    const report_arrays report = r;
     uint8_t number = step(&t, &r, &a);
+    int same = method_leaves(tank, report, &a, number, t, r);
+    if (wrong == 'B') memcpy(a.present, kept.present, sizeof a.present);
     if (number != 0) spoil('T', &r.figures[3 * HEATERS - 1]);
     say_number("T", number);
     say_tank(&t);
     say_doubles("totals", r.totals, 4);
     say_doubles("figures", r.figures, 3 * HEATERS);
-    say_bools("line-flags", r.flags, HEATERS);
+    say_bytes("line-flags", r.flags, HEATERS);
     say_counts("rounds", r.rounds, HEATERS);
     if (memcmp(&a, &kept, sizeof a) != 0) say("the arguments changed\n");
+    if (!same) say("the method left something else\n");
 }
 
 static void answer_mix(void) {

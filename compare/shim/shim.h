@@ -1,5 +1,6 @@
 /* The calls of the crate `shim`, and the layout of what is lent to them. An array's length is part of its type: a call reads and writes exactly so many
-   places. A bool is one byte, 0 or 1. Each call answers the number of the refusal, 0 where it is accepted. Nothing is allocated and no pointer is kept.
+   places. A flag is one byte: read, 0 is false and every other value is true; written, it is 1 or 0. Each call answers the number of the refusal, 0 where it
+   is accepted. Nothing is allocated and no pointer is kept.
    The arrays of one call may not overlap. Doubles are moved, not worked on, where a call is refused: the bits of a not-a-number stay what they are. */
 #ifndef HUSZMAGO_SHIM_H
 #define HUSZMAGO_SHIM_H
@@ -36,16 +37,19 @@ typedef struct {
     double points[2 * HEATERS];    /* all lower set points, then all upper ones */
 } step_arrays;
 
-/* Makes a tank from the counts, numbers, heaters and thermostats lent, and writes it in all six arrays; where refused, zeros. */
+/* Makes a tank from the counts, numbers, heaters and thermostats lent, and writes it in all six arrays; where refused, zeros. `flags` is written and not
+   read. */
 uint8_t huszmago_make(double initial, size_t counts[2], double numbers[6], double temps[LAYERS], double heaters[3 * HEATERS], uint8_t thermostats[HEATERS],
                       uint8_t flags[HEATERS]);
 
-/* Steps a tank: the first ten arrays are read, and hold the answer's tank and report after it. */
+/* Steps a tank: the first ten arrays are read, and hold the answer's tank and report after it. Accepted, the layers, the flags and the report are written; the
+   rest stays, each byte of `thermostats` as it was lent. Refused, nothing is written. */
 uint8_t huszmago_step(size_t counts[2], double numbers[6], double temps[LAYERS], double heaters[3 * HEATERS], uint8_t thermostats[HEATERS],
                       uint8_t flags[HEATERS], double totals[4], double figures[3 * HEATERS], uint8_t line_flags[HEATERS], size_t rounds[HEATERS], double feed,
                       const size_t asked[2], const double volumes[EVENTS], const uint8_t present[2 * HEATERS], const double points[2 * HEATERS]);
 
-/* The same through the method `StorageTank::demand_hot_water`, by value: what it hands back is written in all ten arrays, refused or not. */
+/* The same through the method `StorageTank::demand_hot_water`, by value: what it hands back is written in all ten arrays, refused or not. Each flag is then
+   0 or 1, whatever byte was lent. */
 uint8_t huszmago_demand_hot_water(size_t counts[2], double numbers[6], double temps[LAYERS], double heaters[3 * HEATERS], uint8_t thermostats[HEATERS],
                                   uint8_t flags[HEATERS], double totals[4], double figures[3 * HEATERS], uint8_t line_flags[HEATERS], size_t rounds[HEATERS],
                                   double feed, const size_t asked[2], const double volumes[EVENTS], const uint8_t present[2 * HEATERS],

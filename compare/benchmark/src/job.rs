@@ -80,8 +80,7 @@ pub fn write_lines(day: &Day) {
         return;
     }
     let mut tank = ours::make(&day.making, &day.heaters);
-    tank.temps[..day.making.layers].copy_from_slice(&day.start.layers);
-    tank.flags[..day.heaters.len()].copy_from_slice(&day.start.flags);
+    tank.put(&day.start.layers, &day.start.flags);
     let mut report = ours::Report::default();
     for (index, volumes) in day.draws.iter().enumerate() {
         let step = ours::step_of(day.feed, volumes, day.heaters.len(), day.set_points);
@@ -95,8 +94,7 @@ pub fn write_lines(day: &Day) {
         println!("L{}", hex(&tank.temps[..day.making.layers]));
         for at in 0..day.heaters.len() {
             let figures = [0, 1, 2].map(|kind| report.figures[kind * ours::HEATERS + at]);
-            let flag = u8::from(report.flags[at]);
-            println!("H {flag}{} {}", hex(&figures), report.rounds[at]);
+            println!("H {}{} {}", report.flags[at], hex(&figures), report.rounds[at]);
         }
     }
 }

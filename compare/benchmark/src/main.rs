@@ -145,8 +145,7 @@ impl Ours {
     }
 
     fn prepare(&mut self, day: &Day) {
-        self.tank.temps[..day.making.layers].copy_from_slice(&day.start.layers);
-        self.tank.flags[..day.heaters.len()].copy_from_slice(&day.start.flags);
+        self.tank.put(&day.start.layers, &day.start.flags);
         self.mixed = vec![day.start.layers.clone(); day.draws.len()];
     }
 
@@ -177,13 +176,12 @@ fn compare_state(day: &Day, step: usize, rust: &Rust, ours: &Ours) {
         differ(day, step, &format!("layer {at}"), *layer, ours.tank.temps[at]);
     }
     for (at, flag) in state.flags.iter().enumerate() {
-        let number = |flag: bool| f64::from(u8::from(flag));
         differ(
             day,
             step,
             &format!("flag {at}"),
-            number(*flag),
-            number(ours.tank.flags[at]),
+            f64::from(u8::from(*flag)),
+            f64::from(ours.tank.flags[at]),
         );
     }
     let (average, recoverable) = rust.tank.average_and_recoverable();

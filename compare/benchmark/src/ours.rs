@@ -12,15 +12,25 @@ pub struct Tank {
     pub numbers: [f64; 6],
     pub temps: [f64; LAYERS],
     pub heaters: [f64; 3 * HEATERS],
-    pub thermostats: [bool; HEATERS],
-    pub flags: [bool; HEATERS],
+    pub thermostats: [u8; HEATERS],
+    pub flags: [u8; HEATERS],
+}
+
+impl Tank {
+    /// Layers and flags as given.
+    pub fn put(&mut self, layers: &[f64], flags: &[bool]) {
+        self.temps[..layers.len()].copy_from_slice(layers);
+        for (byte, flag) in self.flags.iter_mut().zip(flags) {
+            *byte = u8::from(*flag);
+        }
+    }
 }
 
 #[derive(Clone, Default)]
 pub struct Report {
     pub totals: [f64; 4],
     pub figures: [f64; 3 * HEATERS],
-    pub flags: [bool; HEATERS],
+    pub flags: [u8; HEATERS],
     pub rounds: [usize; HEATERS],
 }
 
@@ -29,7 +39,7 @@ pub struct Step {
     pub feed: f64,
     pub asked: [usize; 2],
     pub volumes: [f64; EVENTS],
-    pub present: [bool; 2 * HEATERS],
+    pub present: [u8; 2 * HEATERS],
     pub points: [f64; 2 * HEATERS],
 }
 
@@ -40,24 +50,24 @@ extern "C" {
         numbers: &mut [f64; 6],
         temps: &mut [f64; LAYERS],
         heaters: &mut [f64; 3 * HEATERS],
-        thermostats: &mut [bool; HEATERS],
-        flags: &mut [bool; HEATERS],
+        thermostats: &mut [u8; HEATERS],
+        flags: &mut [u8; HEATERS],
     ) -> u8;
     fn huszmago_step(
         counts: &mut [usize; 2],
         numbers: &mut [f64; 6],
         temps: &mut [f64; LAYERS],
         heaters: &mut [f64; 3 * HEATERS],
-        thermostats: &mut [bool; HEATERS],
-        flags: &mut [bool; HEATERS],
+        thermostats: &mut [u8; HEATERS],
+        flags: &mut [u8; HEATERS],
         totals: &mut [f64; 4],
         figures: &mut [f64; 3 * HEATERS],
-        line_flags: &mut [bool; HEATERS],
+        line_flags: &mut [u8; HEATERS],
         rounds: &mut [usize; HEATERS],
         feed: f64,
         asked: &[usize; 2],
         volumes: &[f64; EVENTS],
-        present: &[bool; 2 * HEATERS],
+        present: &[u8; 2 * HEATERS],
         points: &[f64; 2 * HEATERS],
     ) -> u8;
     fn huszmago_mix(layers: *mut f64, n: usize, layer_volume: f64, rounds: &mut [usize; 1]) -> u8;
@@ -80,7 +90,7 @@ pub fn make(making: &Making, heaters: &[Heater]) -> Tank {
         t.heaters[at] = heater.rated;
         t.heaters[HEATERS + at] = heater.position;
         t.heaters[2 * HEATERS + at] = heater.thermostat.unwrap_or(0.0);
-        t.thermostats[at] = heater.thermostat.is_some();
+        t.thermostats[at] = u8::from(heater.thermostat.is_some());
     }
     let number = unsafe {
         huszmago_make(
@@ -102,13 +112,13 @@ pub fn step_of(feed: f64, volumes: &[f64], heaters: usize, set_points: SetPoints
         feed,
         asked: [volumes.len(), heaters],
         volumes: [0.0; EVENTS],
-        present: [false; 2 * HEATERS],
+        present: [0; 2 * HEATERS],
         points: [0.0; 2 * HEATERS],
     };
     a.volumes[..volumes.len()].copy_from_slice(volumes);
     for at in 0..heaters {
         for (from, point) in [(0, set_points.0), (HEATERS, set_points.1)] {
-            a.present[from + at] = point.is_some();
+            a.present[from + at] = u8::from(point.is_some());
             a.points[from + at] = point.unwrap_or(0.0);
         }
     }

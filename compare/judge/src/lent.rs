@@ -2,6 +2,7 @@
 //!
 //! A tank, a report and a step's arguments are the arrays of the crate `shim` (compare/README.md has their
 //! layout). Numbers 1 to 8 and what a refused call leaves are 01's; what an accepted step gives is the Rust's.
+//! A flag is a byte: 0 is false and any other is true; what is written is 0 or 1.
 
 use crate::checks::check_call;
 use crate::job::{Step, MOST_EVENTS, MOST_HEATERS, MOST_LAYERS};
@@ -18,8 +19,8 @@ pub struct LentTank {
     pub temps: [f64; MOST_LAYERS],
     /// Rated powers, positions, thermostat positions.
     pub heaters: [[f64; MOST_HEATERS]; 3],
-    pub thermostats: [bool; MOST_HEATERS],
-    pub flags: [bool; MOST_HEATERS],
+    pub thermostats: [u8; MOST_HEATERS],
+    pub flags: [u8; MOST_HEATERS],
 }
 
 /// A report's places.
@@ -29,7 +30,7 @@ pub struct LentReport {
     pub totals: [f64; 4],
     /// Adjusted inputs, energies supplied, losses.
     pub figures: [[f64; MOST_HEATERS]; 3],
-    pub flags: [bool; MOST_HEATERS],
+    pub flags: [u8; MOST_HEATERS],
     pub rounds: [u64; MOST_HEATERS],
 }
 
@@ -41,7 +42,7 @@ pub struct LentStep {
     pub asked: [u64; 2],
     pub volumes: [f64; MOST_EVENTS],
     /// Of the lower set points, then of the upper ones.
-    pub present: [[bool; MOST_HEATERS]; 2],
+    pub present: [[u8; MOST_HEATERS]; 2],
     pub points: [[f64; MOST_HEATERS]; 2],
 }
 
@@ -58,8 +59,8 @@ impl Bytes {
         xs.iter().for_each(|x| self.0.extend_from_slice(&x.to_le_bytes()));
     }
 
-    fn bools(&mut self, xs: &[bool]) {
-        xs.iter().for_each(|x| self.0.push(*x as u8));
+    fn flags(&mut self, xs: &[u8]) {
+        self.0.extend_from_slice(xs);
     }
 }
 
@@ -77,12 +78,12 @@ pub fn step_request(tank: &LentTank, report: &LentReport, step: &LentStep) -> Ve
     tank_bytes(tank, &mut out);
     out.doubles(&report.totals);
     out.doubles(&report.figures.concat());
-    out.bools(&report.flags);
+    out.flags(&report.flags);
     out.counts(&report.rounds);
     out.doubles(&[step.feed]);
     out.counts(&step.asked);
     out.doubles(&step.volumes);
-    out.bools(&step.present.concat());
+    out.flags(&step.present.concat());
     out.doubles(&step.points.concat());
     out.0
 }
@@ -92,8 +93,8 @@ fn tank_bytes(tank: &LentTank, out: &mut Bytes) {
     out.doubles(&tank.numbers);
     out.doubles(&tank.temps);
     out.doubles(&tank.heaters.concat());
-    out.bools(&tank.thermostats);
-    out.bools(&tank.flags);
+    out.flags(&tank.thermostats);
+    out.flags(&tank.flags);
 }
 
 fn line(name: &str, values: impl Iterator<Item = String>, by_01: bool) -> Line {
@@ -110,8 +111,12 @@ fn counts(name: &str, xs: &[u64], by_01: bool) -> Line {
     line(name, xs.iter().map(|x| x.to_string()), by_01)
 }
 
-fn bools(name: &str, xs: &[bool], by_01: bool) -> Line {
-    line(name, xs.iter().map(|x| (*x as u8).to_string()), by_01)
+fn flags(name: &str, xs: &[u8], by_01: bool) -> Line {
+    line(name, xs.iter().map(|x| x.to_string()), by_01)
+}
+
+fn is_set(byte: u8) -> bool {
+    byte != 0
 }
 
 fn tank_lines(tank: &LentTank, by_01: bool) -> Vec<Line> {
@@ -120,8 +125,8 @@ fn tank_lines(tank: &LentTank, by_01: bool) -> Vec<Line> {
         doubles("numbers", &tank.numbers, true),
         doubles("temps", &tank.temps, by_01),
         doubles("heaters", &tank.heaters.concat(), true),
-        bools("thermostats", &tank.thermostats, true),
-        bools("flags", &tank.flags, by_01),
+        flags("thermostats", &tank.thermostats, true),
+        flags("flags", &tank.flags, by_01),
     ]
 }
 
@@ -129,7 +134,7 @@ fn report_lines(report: &LentReport, by_01: bool) -> Vec<Line> {
     vec![
         doubles("totals", &report.totals, by_01),
         doubles("figures", &report.figures.concat(), by_01),
-        bools("line-flags", &report.flags, by_01),
+        flags("line-flags", &report.flags, by_01),
         counts("rounds", &report.rounds, by_01),
     ]
 }
@@ -163,7 +168,7 @@ impl LentTank {
             .map(|h| Heater {
                 rated: rated[h],
                 position: position[h],
-                thermostat: self.thermostats[h].then_some(thermostat[h]),
+                thermostat: is_set(self.thermostats[h]).then_some(thermostat[h]),
             })
             .collect()
     }
@@ -184,15 +189,15 @@ const NO_TANK: LentTank = LentTank {
     numbers: [0.0; 6],
     temps: [0.0; MOST_LAYERS],
     heaters: [[0.0; MOST_HEATERS]; 3],
-    thermostats: [false; MOST_HEATERS],
-    flags: [false; MOST_HEATERS],
+    thermostats: [0; MOST_HEATERS],
+    flags: [0; MOST_HEATERS],
 };
 
 /// 01: unused places are zero.
 const NO_REPORT: LentReport = LentReport {
     totals: [0.0; 4],
     figures: [[0.0; MOST_HEATERS]; 3],
-    flags: [false; MOST_HEATERS],
+    flags: [0; MOST_HEATERS],
     rounds: [0; MOST_HEATERS],
 };
 
@@ -214,7 +219,7 @@ pub fn make(initial: f64, tank: &LentTank) -> Vec<Line> {
             made.heaters[0][h] = heater.rated;
             made.heaters[1][h] = heater.position;
             made.heaters[2][h] = heater.thermostat.unwrap_or(0.0);
-            made.thermostats[h] = heater.thermostat.is_some();
+            made.thermostats[h] = u8::from(heater.thermostat.is_some());
         }
     }
     let mut lines = vec![number_line('N', number)];
@@ -239,7 +244,7 @@ pub fn step(tank: &mut LentTank, report: &mut LentReport, given: &LentStep) -> (
             volumes: given.volumes[..events as usize].to_vec(),
             set_points: (0..heaters.len())
                 .map(|h| {
-                    let point = |at: usize| given.present[at][h].then_some(given.points[at][h]);
+                    let point = |at: usize| is_set(given.present[at][h]).then_some(given.points[at][h]);
                     (point(0), point(1))
                 })
                 .collect(),
@@ -249,14 +254,17 @@ pub fn step(tank: &mut LentTank, report: &mut LentReport, given: &LentStep) -> (
             Ok(mut judged) => {
                 judged.put(&State {
                     layers: tank.temps[..used].to_vec(),
-                    flags: tank.flags[..heaters.len()].to_vec(),
+                    flags: tank.flags[..heaters.len()].iter().copied().map(is_set).collect(),
                 });
                 match judged.step(&step) {
                     Outcome::Refused(refusal) => number = refusal,
                     Outcome::Failed(words) => failed = Some(words),
                     Outcome::Accepted(stepped) => {
                         tank.temps[..used].copy_from_slice(&stepped.state.layers);
-                        tank.flags[..heaters.len()].copy_from_slice(&stepped.state.flags);
+                        tank.flags = tank.flags.map(|byte| u8::from(is_set(byte)));
+                        for (byte, flag) in tank.flags.iter_mut().zip(&stepped.state.flags) {
+                            *byte = u8::from(*flag);
+                        }
                         *report = NO_REPORT;
                         report.totals = [
                             stepped.energy,
@@ -268,7 +276,7 @@ pub fn step(tank: &mut LentTank, report: &mut LentReport, given: &LentStep) -> (
                             report.figures[0][*h] = turn.adjusted;
                             report.figures[1][*h] = turn.supplied;
                             report.figures[2][*h] = turn.losses;
-                            report.flags[*h] = stepped.state.flags[*h];
+                            report.flags[*h] = u8::from(stepped.state.flags[*h]);
                             report.rounds[*h] = turn.rounds;
                         }
                     }

@@ -1,1 +1,3 @@
+pub mod Bytes
 pub mod Kept
+pub mod Left

@@ -1,3 +1,4 @@
+pub mod Flags
 pub mod Tanks
 pub mod Reports
 pub mod Steps

@@ -10,6 +10,7 @@ use Rattle.working_order.specs.Order.{maxHeaters}
 use Rattle.tank_model.specs.declared.HeaterLine.{HeaterLine}
 use Rattle.tank_arrays.specs.Arrays.{linesIn}
 use Rattle.storage_tank.specs.declared.Report.{Report}
+use Rattle.shim.specs.Flags.{flagsIn, bytesOf}
 
 -- what stands past the end of a list of lines
 abbrev noLine : HeaterLine
@@ -17,14 +18,14 @@ noLine = record { flag = false; adjusted = nan; supplied = nan; losses = nan; ro
 
 -- ---- from arrays
 
--- totals: energy withdrawn, volume used, average draw-off temperature, recoverable losses
-unfoldable pub reportIn : List Float → List Float → List Bool → List ℕ → Report
+-- totals: energy withdrawn, volume used, average draw-off temperature, recoverable losses; flags are bytes
+unfoldable pub reportIn : List Float → List Float → List ℕ → List ℕ → Report
 reportIn totals figures flags rounds = record {
   energy = getD totals 0 nan;
   used = getD totals 1 nan;
   average = getD totals 2 nan;
   recoverable = getD totals 3 nan;
-  lines = linesIn figures flags rounds;
+  lines = linesIn figures (flagsIn flags) rounds;
 }
 
 -- ---- to arrays: adjusted inputs, then energies supplied, then losses
@@ -44,9 +45,13 @@ lineFlagsOf xs = tabulate (λ (h : ℕ). getD xs h noLine .flag) maxHeaters 0
 unfoldable pub roundsOf : List HeaterLine → List ℕ
 roundsOf xs = tabulate (λ (h : ℕ). getD xs h noLine .rounds) maxHeaters 0
 
--- the arrays hold the report
-pub record ReportWritten (r : Report) (totals figures : List Float) (flags : List Bool) (rounds : List ℕ) : Type 0 where
+-- the arrays of numbers hold the report
+pub record ReportHeld (r : Report) (totals figures : List Float) (rounds : List ℕ) : Type 0 where
   pub totals-held : totals ≡ totalsOf r
   pub figures-held : figures ≡ figuresOf (r .lines)
-  pub flags-held : flags ≡ lineFlagsOf (r .lines)
   pub rounds-held : rounds ≡ roundsOf (r .lines)
+
+-- and the bytes are those of its flags
+pub record ReportWritten (r : Report) (totals figures : List Float) (flags rounds : List ℕ) : Type 0 where
+  pub held : ReportHeld r totals figures rounds
+  pub flags-written : flags ≡ bytesOf (lineFlagsOf (r .lines))

@@ -1,7 +1,6 @@
 -- States how a tank stands in lent arrays, both ways (01, The four calls: what make answers, and what a step takes and answers).
 use Prim.Native.Nat.{ℕ}
 use mathlib.Core.Path.{_≡_}
-use mathlib.Core.Bool.{Bool}
 use mathlib.Core.List.{List, [], _∷_}
 use lib.ListN.{getD}
 use lib.Ieee.{Float, nan}
@@ -10,6 +9,7 @@ use Rattle.tank_model.specs.declared.TankDesign.{TankDesign}
 use Rattle.tank_arrays.specs.Arrays.{fittedIn, heatersOf, thermostatsOf}
 use Rattle.storage_tank.specs.declared.StorageTank.{StorageTank}
 use Rattle.storage_tank.specs.Tank.{tankWith}
+use Rattle.shim.specs.Flags.{flagsIn, bytesOf}
 
 -- ---- from arrays
 
@@ -25,10 +25,11 @@ cylinderIn counts numbers = record {
   timestep = getD numbers 5 nan;
 }
 
-abbrev pub tankIn : List ℕ → List Float → List Float → List Float → List Bool → List Bool → StorageTank
-tankIn counts numbers temps heaters thermostats flags = tankWith (cylinderIn counts numbers) (getD counts 1 0) temps heaters thermostats flags
+-- thermostats and flags are bytes
+abbrev pub tankIn : List ℕ → List Float → List Float → List Float → List ℕ → List ℕ → StorageTank
+tankIn counts numbers temps heaters thermostats flags = tankWith (cylinderIn counts numbers) (getD counts 1 0) temps heaters (flagsIn thermostats) (flagsIn flags)
 
-unfoldable pub designIn : List ℕ → List Float → Float → List Float → List Bool → TankDesign
+unfoldable pub designIn : List ℕ → List Float → Float → List Float → List ℕ → TankDesign
 designIn counts numbers initial heaters thermostats = record {
   layers = getD counts 0 0;
   volume = getD numbers 0 nan;
@@ -39,7 +40,7 @@ designIn counts numbers initial heaters thermostats = record {
   ambient = getD numbers 4 nan;
   timestep = getD numbers 5 nan;
   heaters = getD counts 1 0;
-  fitted = fittedIn heaters thermostats;
+  fitted = fittedIn heaters (flagsIn thermostats);
 }
 
 -- ---- to arrays
@@ -50,11 +51,15 @@ countsOf t = t .layers ∷ t .heaters ∷ []
 abbrev pub numbersOf : StorageTank → List Float
 numbersOf t = t .volume ∷ t .standby ∷ t .rho ∷ t .cp ∷ t .ambient ∷ t .timestep ∷ []
 
--- the arrays hold the tank
-pub record TankWritten (t : StorageTank) (counts : List ℕ) (numbers temps heaters : List Float) (thermostats flags : List Bool) : Type 0 where
+-- the arrays of numbers hold the tank
+pub record TankHeld (t : StorageTank) (counts : List ℕ) (numbers temps heaters : List Float) : Type 0 where
   pub counts-held : counts ≡ countsOf t
   pub numbers-held : numbers ≡ numbersOf t
   pub temps-held : temps ≡ t .temps
   pub heaters-held : heaters ≡ heatersOf (t .fitted)
-  pub thermostats-held : thermostats ≡ thermostatsOf (t .fitted)
-  pub flags-held : flags ≡ t .flags
+
+-- and the bytes are those of its flags
+pub record TankWritten (t : StorageTank) (counts : List ℕ) (numbers temps heaters : List Float) (thermostats flags : List ℕ) : Type 0 where
+  pub held : TankHeld t counts numbers temps heaters
+  pub thermostats-written : thermostats ≡ bytesOf (thermostatsOf (t .fitted))
+  pub flags-written : flags ≡ bytesOf (t .flags)

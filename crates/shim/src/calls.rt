@@ -1,4 +1,5 @@
 // The exported calls. Each answers the number of 01's refusal, 0 where it is accepted. A refused step and a refused mix leave what was lent as it was.
+// Flags are lent as bytes (`flags`), since C can lend any byte: each call reads them as one rule says, and writes 1 or 0 where it writes.
 ghost use mathlib.Core.Path.{_≡_};
 ghost use mathlib.Core.List.{[], _∷_};
 ghost use Rattle.mixing.specs.Mix.{mixNumber, mixRounds, mixLayers, numberOf, roundsOf};
@@ -6,7 +7,7 @@ ghost use Rattle.storage_tank.specs.Calls.{made, stepped};
 ghost use Rattle.shim.specs.Tanks.{designIn, tankIn, TankWritten};
 ghost use Rattle.shim.specs.Reports.{reportIn, ReportWritten};
 ghost use Rattle.shim.specs.Steps.{stepIn};
-ghost use Rattle.shim.specs.Answers.{MakeAnswered, StepAnswered};
+ghost use Rattle.shim.specs.Answers.{MakeAnswered, StepAnswered, StepLeft};
 use cylinder::Cylinder;
 use draw_off::event::MAX_EVENTS;
 use mixing::MixAnswer;
@@ -62,8 +63,8 @@ fn put_tank(
     numbers: &mut [f64; 6],
     temps: &mut [f64; MAX_LAYERS],
     heaters: &mut [f64; 24],
-    thermostats: &mut [bool; MAX_HEATERS],
-    flags: &mut [bool; MAX_HEATERS],
+    thermostats: &mut [u8; MAX_HEATERS],
+    flags: &mut [u8; MAX_HEATERS],
 )
     ensures { λ r. ⌜ TankWritten t (now (counts .exit)) (now (numbers .exit)) (now (temps .exit)) (now (heaters .exit)) (now (thermostats .exit)) (now (flags .exit)) ⌝ }
 {
@@ -77,16 +78,16 @@ fn put_tank(
     let h = tank_arrays::arrays::heaters_of(fitted);
     *heaters = h;
     let b = tank_arrays::arrays::thermostats_of(fitted);
-    *thermostats = b;
+    *thermostats = crate::flags::bytes_of(b);
     let f = t.flags;
-    *flags = f;
+    *flags = crate::flags::bytes_of(f);
 }
 
 fn put_report(
     r: Report,
     totals: &mut [f64; 4],
     figures: &mut [f64; 24],
-    flags: &mut [bool; MAX_HEATERS],
+    flags: &mut [u8; MAX_HEATERS],
     rounds: &mut [usize; MAX_HEATERS],
 )
     ensures { λ u. ⌜ ReportWritten r (now (totals .exit)) (now (figures .exit)) (now (flags .exit)) (now (rounds .exit)) ⌝ }
@@ -96,8 +97,8 @@ fn put_report(
     let lines = r.lines;
     let x = crate::reports::figures_of(lines);
     *figures = x;
-    let f = crate::reports::line_flags_of(lines);
-    *flags = f;
+    let reported = crate::reports::line_flags_of(lines);
+    *flags = crate::flags::bytes_of(reported);
     let n = crate::reports::rounds_of(lines);
     *rounds = n;
 }
@@ -110,7 +111,8 @@ fn totals_of(w: WorkAnswer) -> [f64; 4]
     [t.energy, t.used, w.average, w.recoverable]
 }
 
-// Makes a tank from the counts, numbers and heaters lent, and writes it in all its arrays: where refused, a tank of no layers, no heaters and zeros.
+// Makes a tank from the counts, numbers and heaters lent, and writes it in all its arrays: where refused, a tank of no layers, no heaters and zeros. The flags
+// lent are not read.
 #[no_mangle]
 pub extern "C" fn huszmago_make(
     initial: f64,
@@ -118,8 +120,8 @@ pub extern "C" fn huszmago_make(
     numbers: &mut [f64; 6],
     temps: &mut [f64; MAX_LAYERS],
     heaters: &mut [f64; 24],
-    thermostats: &mut [bool; MAX_HEATERS],
-    flags: &mut [bool; MAX_HEATERS],
+    thermostats: &mut [u8; MAX_HEATERS],
+    flags: &mut [u8; MAX_HEATERS],
 ) -> u8
     ensures { λ r. ⌜ MakeAnswered (made (designIn (now (counts .entry)) (now (numbers .entry)) initial (now (heaters .entry)) (now (thermostats .entry)))) r (now (counts .exit)) (now (numbers .exit)) (now (temps .exit)) (now (heaters .exit)) (now (thermostats .exit)) (now (flags .exit)) ⌝ }
 {
@@ -133,37 +135,29 @@ pub extern "C" fn huszmago_make(
     a.number
 }
 
-// Steps the tank that the first six arrays hold. Accepted, the layers, the flags and the report are written: the rest of a tank stays. Refused, nothing is.
+// Steps the tank that the first six arrays hold. Accepted, the layers, the flags and the report are written: the rest of a tank stays, each byte of
+// `thermostats` as it was lent. Refused, nothing is written, and each byte of the flags stays too.
 #[no_mangle]
 pub extern "C" fn huszmago_step(
     counts: &mut [usize; 2],
     numbers: &mut [f64; 6],
     temps: &mut [f64; MAX_LAYERS],
     heaters: &mut [f64; 24],
-    thermostats: &mut [bool; MAX_HEATERS],
-    flags: &mut [bool; MAX_HEATERS],
+    thermostats: &mut [u8; MAX_HEATERS],
+    flags: &mut [u8; MAX_HEATERS],
     totals: &mut [f64; 4],
     figures: &mut [f64; 24],
-    line_flags: &mut [bool; MAX_HEATERS],
+    line_flags: &mut [u8; MAX_HEATERS],
     rounds: &mut [usize; MAX_HEATERS],
     feed: f64,
     asked: &[usize; 2],
     volumes: &[f64; MAX_EVENTS],
-    present: &[bool; 16],
+    present: &[u8; 16],
     points: &[f64; 16],
 ) -> u8
-    ensures { λ r. ⌜ StepAnswered (stepped (tankIn (now (counts .entry)) (now (numbers .entry)) (now (temps .entry)) (now (heaters .entry)) (now (thermostats .entry)) (now (flags .entry))) (reportIn (now (totals .entry)) (now (figures .entry)) (now («line_flags» .entry)) (now (rounds .entry))) (stepIn feed (now (asked .entry)) (now (volumes .entry)) (now (present .entry)) (now (points .entry)))) r (now (counts .exit)) (now (numbers .exit)) (now (temps .exit)) (now (heaters .exit)) (now (thermostats .exit)) (now (flags .exit)) (now (totals .exit)) (now (figures .exit)) (now («line_flags» .exit)) (now (rounds .exit)) ⌝ }
+    ensures { λ r. ⌜ StepLeft (stepped (tankIn (now (counts .entry)) (now (numbers .entry)) (now (temps .entry)) (now (heaters .entry)) (now (thermostats .entry)) (now (flags .entry))) (reportIn (now (totals .entry)) (now (figures .entry)) (now («line_flags» .entry)) (now (rounds .entry))) (stepIn feed (now (asked .entry)) (now (volumes .entry)) (now (present .entry)) (now (points .entry)))) (now (thermostats .entry)) (now (flags .entry)) (now («line_flags» .entry)) r (now (counts .exit)) (now (numbers .exit)) (now (temps .exit)) (now (heaters .exit)) (now (thermostats .exit)) (now (flags .exit)) (now (totals .exit)) (now (figures .exit)) (now («line_flags» .exit)) (now (rounds .exit)) ⌝ }
 {
-    crate::lengths::lengths_told(
-        *counts,
-        *numbers,
-        *heaters,
-        *thermostats,
-        *totals,
-        *figures,
-        *line_flags,
-        *rounds,
-    );
+    crate::lengths::lengths_told(*counts, *numbers, *heaters, *totals, *figures, *rounds);
     let c = Cylinder {
         layers: counts[0],
         volume: numbers[0],
@@ -173,8 +167,10 @@ pub extern "C" fn huszmago_step(
         ambient: numbers[4],
         timestep: numbers[5],
     };
+    let has_thermostat = crate::flags::flags_in(*thermostats);
+    let there = crate::flags::present_in(*present);
     let mut after = *temps;
-    let mut on = *flags;
+    let mut on = crate::flags::flags_in(*flags);
     let mut x = [0.0; THREE_EACH];
     let mut g = [false; MAX_HEATERS];
     let mut k = [0; MAX_HEATERS];
@@ -182,12 +178,12 @@ pub extern "C" fn huszmago_step(
         c,
         counts[1],
         heaters,
-        thermostats,
+        &has_thermostat,
         feed,
         asked[0],
         volumes,
         asked[1],
-        present,
+        &there,
         points,
         &mut after,
         &mut on,
@@ -199,32 +195,32 @@ pub extern "C" fn huszmago_step(
         return w.number;
     }
     *temps = after;
-    *flags = on;
+    *flags = crate::flags::bytes_of(on);
     *totals = totals_of(w);
     *figures = x;
-    *line_flags = g;
+    *line_flags = crate::flags::bytes_of(g);
     *rounds = k;
     0
 }
 
 // The same through the method: a tank, a report and a step are made of what is lent and passed by value, and what the call hands back is written in all ten arrays,
-// refused or not.
+// refused or not. So every byte of a flag is 0 or 1 after it, whatever was lent.
 #[no_mangle]
 pub extern "C" fn huszmago_demand_hot_water(
     counts: &mut [usize; 2],
     numbers: &mut [f64; 6],
     temps: &mut [f64; MAX_LAYERS],
     heaters: &mut [f64; 24],
-    thermostats: &mut [bool; MAX_HEATERS],
-    flags: &mut [bool; MAX_HEATERS],
+    thermostats: &mut [u8; MAX_HEATERS],
+    flags: &mut [u8; MAX_HEATERS],
     totals: &mut [f64; 4],
     figures: &mut [f64; 24],
-    line_flags: &mut [bool; MAX_HEATERS],
+    line_flags: &mut [u8; MAX_HEATERS],
     rounds: &mut [usize; MAX_HEATERS],
     feed: f64,
     asked: &[usize; 2],
     volumes: &[f64; MAX_EVENTS],
-    present: &[bool; 16],
+    present: &[u8; 16],
     points: &[f64; 16],
 ) -> u8
     ensures { λ r. ⌜ StepAnswered (stepped (tankIn (now (counts .entry)) (now (numbers .entry)) (now (temps .entry)) (now (heaters .entry)) (now (thermostats .entry)) (now (flags .entry))) (reportIn (now (totals .entry)) (now (figures .entry)) (now («line_flags» .entry)) (now (rounds .entry))) (stepIn feed (now (asked .entry)) (now (volumes .entry)) (now (present .entry)) (now (points .entry)))) r (now (counts .exit)) (now (numbers .exit)) (now (temps .exit)) (now (heaters .exit)) (now (thermostats .exit)) (now (flags .exit)) (now (totals .exit)) (now (figures .exit)) (now («line_flags» .exit)) (now (rounds .exit)) ⌝ }

@@ -7,11 +7,9 @@ pub fn lengths_told(
     counts: [usize; 2],
     numbers: [f64; 6],
     heaters: [f64; 24],
-    thermostats: [bool; MAX_HEATERS],
     totals: [f64; 4],
     figures: [f64; 24],
-    flags: [bool; MAX_HEATERS],
     rounds: [usize; MAX_HEATERS],
 )
-    ensures { λ r. ⌜ (length counts ≡ 2) × (length numbers ≡ 6) × (length heaters ≡ 24) × (length thermostats ≡ 8) × (length totals ≡ 4) × (length figures ≡ 24) × (length flags ≡ 8) × (length rounds ≡ 8) ⌝ }
+    ensures { λ r. ⌜ (length counts ≡ 2) × (length numbers ≡ 6) × (length heaters ≡ 24) × (length totals ≡ 4) × (length figures ≡ 24) × (length rounds ≡ 8) ⌝ }
 {}

@@ -8,12 +8,13 @@ use working_order::MAX_HEATERS;
 pub fn report_in(
     totals: [f64; 4],
     figures: [f64; 24],
-    flags: [bool; MAX_HEATERS],
+    flags: [u8; MAX_HEATERS],
     rounds: [usize; MAX_HEATERS],
 ) -> Report
     ensures { λ r. ⌜ r ≡ reportIn totals figures flags rounds ⌝ }
 {
-    let lines = tank_arrays::arrays::lines_in(figures, flags, rounds);
+    let on = crate::flags::flags_in(flags);
+    let lines = tank_arrays::arrays::lines_in(figures, on, rounds);
     Report {
         energy: totals[0],
         used: totals[1],

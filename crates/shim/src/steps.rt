@@ -38,12 +38,13 @@ pub fn step_in(
     feed: f64,
     asked: [usize; 2],
     volumes: [f64; MAX_EVENTS],
-    present: &[bool; 16],
+    present: &[u8; 16],
     points: &[f64; 16],
 ) -> Step
     ensures { λ r. ⌜ r ≡ stepIn feed asked volumes (now (present .entry)) (now (points .entry)) ⌝ }
 {
-    let settings = settings_in(present, points);
+    let there = crate::flags::present_in(*present);
+    let settings = settings_in(&there, points);
     Step {
         feed,
         events: asked[0],

@@ -43,12 +43,13 @@ pub fn tank_in(
     numbers: [f64; 6],
     temps: [f64; MAX_LAYERS],
     heaters: [f64; 24],
-    thermostats: [bool; MAX_HEATERS],
-    flags: [bool; MAX_HEATERS],
+    thermostats: [u8; MAX_HEATERS],
+    flags: [u8; MAX_HEATERS],
 ) -> StorageTank
     ensures { λ r. ⌜ r ≡ tankIn counts numbers temps heaters thermostats flags ⌝ }
 {
-    let fitted = fitted_in(heaters, thermostats);
+    let fitted = fitted_in(heaters, crate::flags::flags_in(thermostats));
+    let on = crate::flags::flags_in(flags);
     StorageTank {
         layers: counts[0],
         volume: numbers[0],
@@ -60,7 +61,7 @@ pub fn tank_in(
         temps,
         heaters: counts[1],
         fitted,
-        flags,
+        flags: on,
     }
 }
 
@@ -69,11 +70,11 @@ pub fn design_in(
     numbers: [f64; 6],
     initial: f64,
     heaters: [f64; 24],
-    thermostats: [bool; MAX_HEATERS],
+    thermostats: [u8; MAX_HEATERS],
 ) -> TankDesign
     ensures { λ r. ⌜ r ≡ designIn counts numbers initial heaters thermostats ⌝ }
 {
-    let fitted = fitted_in(heaters, thermostats);
+    let fitted = fitted_in(heaters, crate::flags::flags_in(thermostats));
     TankDesign {
         layers: counts[0],
         volume: numbers[0],

@@ -46,8 +46,21 @@ fn odd_count(rng: &mut Rng, right: u64, most: u64) -> u64 {
     }
 }
 
-fn bools<const N: usize>(rng: &mut Rng) -> [bool; N] {
-    std::array::from_fn(|_| rng.one_in(2))
+/// A byte for a flag. One that is set is 1, or any other but 0.
+fn flag(rng: &mut Rng, set: bool) -> u8 {
+    match (set, rng.below(4)) {
+        (false, _) => 0,
+        (true, 0 | 1) => 1,
+        (true, 2) => *rng.pick(&[2, 3, 127, 128, 254, 255]),
+        (true, _) => rng.from_to(1, 255) as u8,
+    }
+}
+
+fn flags<const N: usize>(rng: &mut Rng) -> [u8; N] {
+    std::array::from_fn(|_| {
+        let set = rng.one_in(2);
+        flag(rng, set)
+    })
 }
 
 fn rows<const N: usize>(rng: &mut Rng, filling: Filling) -> [[f64; MOST_HEATERS]; N] {
@@ -75,8 +88,8 @@ fn tank(rng: &mut Rng, filling: Filling) -> LentTank {
         ],
         temps: std::array::from_fn(|_| filler(rng, filling)),
         heaters: rows(rng, filling),
-        thermostats: bools(rng),
-        flags: bools(rng),
+        thermostats: flags(rng),
+        flags: flags(rng),
     };
     let temps = any_layers(rng, layers);
     tank.temps[..layers].copy_from_slice(&temps);
@@ -90,7 +103,7 @@ fn tank(rng: &mut Rng, filling: Filling) -> LentTank {
         let heater = day_heater(rng);
         tank.heaters[0][h] = heater.rated;
         tank.heaters[1][h] = heater.position;
-        tank.thermostats[h] = heater.thermostat.is_some();
+        tank.thermostats[h] = flag(rng, heater.thermostat.is_some());
         if let Some(place) = heater.thermostat {
             tank.heaters[2][h] = place;
         }
@@ -102,7 +115,7 @@ fn report(rng: &mut Rng, filling: Filling) -> LentReport {
     LentReport {
         totals: std::array::from_fn(|_| filler(rng, filling)),
         figures: rows(rng, filling),
-        flags: bools(rng),
+        flags: flags(rng),
         rounds: std::array::from_fn(|_| if rng.one_in(2) { rng.next() } else { rng.below(65) }),
     }
 }
@@ -120,13 +133,13 @@ fn step(rng: &mut Rng, tank: &LentTank, filling: Filling) -> LentStep {
         feed,
         asked: [given.volumes.len() as u64, tank.counts[1]],
         volumes: std::array::from_fn(|_| filler(rng, filling)),
-        present: [bools(rng), bools(rng)],
+        present: [flags(rng), flags(rng)],
         points: rows(rng, filling),
     };
     step.volumes[..given.volumes.len()].copy_from_slice(&given.volumes);
     for (h, (lower, upper)) in given.set_points.iter().enumerate() {
-        step.present[0][h] = lower.is_some();
-        step.present[1][h] = upper.is_some();
+        step.present[0][h] = flag(rng, lower.is_some());
+        step.present[1][h] = flag(rng, upper.is_some());
         if let Some(lower) = lower {
             step.points[0][h] = *lower;
         }
@@ -176,10 +189,10 @@ fn spoil_step(rng: &mut Rng, tank: &LentTank, step: &mut LentStep) {
         3 => step.volumes[rng.below(events) as usize] = odd(rng),
         4 => step.volumes[rng.below(events) as usize] = -rng.between(0.0, 1.0),
         5 => step.points[rng.below(2) as usize][h] = odd(rng),
-        6 => (step.present[0][h], step.present[1][h]) = (true, false),
+        6 => (step.present[0][h], step.present[1][h]) = (flag(rng, true), 0),
         _ => {
             step.points[0][h] = step.points[1][h] + 1.0;
-            (step.present[0][h], step.present[1][h]) = (true, true);
+            (step.present[0][h], step.present[1][h]) = (flag(rng, true), flag(rng, true));
         }
     }
 }

@@ -32,8 +32,8 @@ returns c =
     let s = rw (report .before .before .before .before .before .tank-in .ensures, report .report-in .ensures, asked .step-in .ensures) at (ran .demand-hot-water .ensures) in
     record {
       number-is = ap (λ (x : Stepped). x .number) s;
-      tank-held = rw (← s) (tank .put-tank .ensures);
-      report-held = rw (← s) (c .put-report .ensures);
+      tank-written = rw (← s) (tank .put-tank .ensures);
+      report-written = rw (← s) (c .put-report .ensures);
     }
 
 pub huszmago-demand-hot-water-spec : {M : Type 1} → statement M

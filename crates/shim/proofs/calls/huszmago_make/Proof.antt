@@ -18,7 +18,7 @@ returns : tie.Need-returns
 returns c =
     let ran = c .before .before .before .before .before .before .before .before in
     let a = ran .new .ensures ∙ ap made (ran .before .design-in .ensures) in
-    record { number-is = ap (λ x. x .number) a; tank-held = rw (← a) (c .put-tank .ensures) }
+    record { number-is = ap (λ x. x .number) a; tank-written = rw (← a) (c .put-tank .ensures) }
 
 pub huszmago-make-spec : {M : Type 1} → statement M
 huszmago-make-spec = tie.close (tie.spec design-in-requires new-requires put-tank-requires returns)

@@ -5,7 +5,7 @@ use Rattle.storage_tank.proofs.Answers.{step-refuses, step-accepts}
 use Rattle.shim.specs.Tanks.{tankIn}
 use Rattle.shim.specs.Reports.{reportIn}
 use Rattle.shim.specs.Steps.{stepIn}
-use Rattle.shim.proofs.Kept.{refused-answered, worked-answered}
+use Rattle.shim.proofs.Kept.{refused-left, worked-left}
 use borrow.Author.Needs.{needs}
 use Rattle.shim.proofs.calls.huszmago_step.Statement.{statement}
 use Rattle.shim.proofs.calls.huszmago_step.Tie as tie
@@ -34,6 +34,15 @@ element-copy-out-t49 c = search needs
 element-copy-out-t52 : tie.Need-element-copy-out-t52
 element-copy-out-t52 c = search needs
 
+flags-in-requires : tie.Need-flags-in-requires
+flags-in-requires c κs = search needs
+
+present-in-requires : tie.Need-present-in-requires
+present-in-requires c κs = search needs
+
+flags-in-requires-2 : tie.Need-flags-in-requires-2
+flags-in-requires-2 c κs = search needs
+
 element-copy-out-work-step-2 : tie.Need-element-copy-out-work-step-2
 element-copy-out-work-step-2 c = search needs
 
@@ -48,22 +57,35 @@ work-step-requires c κs = record { figures-zero = refl; flags-zero = refl; roun
 
 returns : tie.Need-returns
 returns c =
-    let i = c .before .before .before .before .before .before .before .before .before .before .before .before .before .before .before .before .before .before .before .before .before .before .before .before .before .before .before .before .before .before .before .args in
-    let l = c .before .before .before .before .before .before .before .before .before .before .before .before .before .before .before .before .before .before .before .before .before .before .lengths-told .ensures in
-    let report = reportIn (i .totals .now) (i .figures .now) (i .line-flags .now) (i .rounds .now) in
-    let w = step-refuses (tankIn (i .counts .now) (i .numbers .now) (i .temps .now) (i .heaters .now) (i .thermostats .now) (i .flags .now)) report (stepIn (i .feed) (i .asked .now) (i .volumes .now) (i .present .now) (i .points .now)) (c .before .before .work-step .result) _ _ _ (c .before .before .work-step .ensures .0) (c .if1 .taken) in
-    refused-answered (i .counts .now) (i .numbers .now) (i .temps .now) (i .heaters .now) (i .thermostats .now) (i .flags .now) (l .0) (l .1) (l .2) (l .3) (i .totals .now) (i .figures .now) (i .line-flags .now) (i .rounds .now) (l .4) (l .5) (l .6) (l .7) (stepIn (i .feed) (i .asked .now) (i .volumes .now) (i .present .now) (i .points .now)) _ (ap (λ (x : Stepped). x .number) w) (c .if1 .taken)
+    let i = c .before .before .before .before .before .before .before .before .before .before .before .before .before .before .before .before .before .before .before .before .before .before .before .before .before .before .before .before .before .before .before .before .before .before .before .args in
+    let l = c .before .before .before .before .before .before .before .before .before .before .before .before .before .before .before .before .before .before .before .before .before .before .before .before .before .before .before .before .lengths-told .ensures in
+    let w = c .before .before .work-step in
+    let t = tankIn (i .counts .now) (i .numbers .now) (i .temps .now) (i .heaters .now) (i .thermostats .now) (i .flags .now) in
+    let r = reportIn (i .totals .now) (i .figures .now) (i .line-flags .now) (i .rounds .now) in
+    let a = stepIn (i .feed) (i .asked .now) (i .volumes .now) (i .present .now) (i .points .now) in
+    let worked = rw (c .before .before .before .before .before .before .before .before .before .before .before .before .before .before .before .before .before .before .before .flags-in .ensures, c .before .before .before .before .before .before .before .before .before .before .before .before .before .before .before .before .before .present-in .ensures, c .before .before .before .before .before .before .before .before .before .before .before .before .before .before .flags-in2 .ensures) at (w .ensures .0) in
+    refused-left (i .counts .now) (i .numbers .now) (i .temps .now) (i .heaters .now) (i .thermostats .now) (i .flags .now) (l .0) (l .1) (l .2) (i .totals .now) (i .figures .now) (i .line-flags .now) (i .rounds .now) (l .3) (l .4) (l .5) a _ (ap (λ (x : Stepped). x .number) (step-refuses t r a (w .result) _ _ _ worked (c .if1 .taken))) (c .if1 .taken)
+
+bytes-of-requires : tie.Need-bytes-of-requires
+bytes-of-requires c κs = search needs
 
 totals-of-requires : tie.Need-totals-of-requires
 totals-of-requires c κs = search needs
 
+bytes-of-requires-2 : tie.Need-bytes-of-requires-2
+bytes-of-requires-2 c κs = search needs
+
 returns-2 : tie.Need-returns-2
 returns-2 c =
-    let i = c .before .before .before .before .before .before .before .before .before .before .before .before .before .before .before .before .before .before .before .before .before .before .before .before .before .before .before .before .before .before .before .before .args in
-    let l = c .before .before .before .before .before .before .before .before .before .before .before .before .before .before .before .before .before .before .before .before .before .before .before .lengths-told .ensures in
-    let report = reportIn (i .totals .now) (i .figures .now) (i .line-flags .now) (i .rounds .now) in
-    let w = c .before .before .before .work-step .ensures in
-    worked-answered (i .counts .now) (i .numbers .now) (i .temps .now) (i .heaters .now) (i .thermostats .now) (i .flags .now) (l .0) (l .1) (l .2) (l .3) (i .totals .now) (i .figures .now) (i .line-flags .now) (i .rounds .now) (l .4) (l .5) (l .6) (l .7) (stepIn (i .feed) (i .asked .now) (i .volumes .now) (i .present .now) (i .points .now)) (c .before .before .before .work-step .result) _ _ _ _ _ _ (step-accepts (tankIn (i .counts .now) (i .numbers .now) (i .temps .now) (i .heaters .now) (i .thermostats .now) (i .flags .now)) report (stepIn (i .feed) (i .asked .now) (i .volumes .now) (i .present .now) (i .points .now)) (c .before .before .before .work-step .result) _ _ _ (w .0) (c .before .if1 .left)) (c .totals-of .ensures) (w .1 (c .before .if1 .left))
+    let i = c .before .before .before .before .before .before .before .before .before .before .before .before .before .before .before .before .before .before .before .before .before .before .before .before .before .before .before .before .before .before .before .before .before .before .before .before .before .before .args in
+    let l = c .before .before .before .before .before .before .before .before .before .before .before .before .before .before .before .before .before .before .before .before .before .before .before .before .before .before .before .before .before .before .before .lengths-told .ensures in
+    let w = c .before .before .before .before .before .work-step in
+    let t = tankIn (i .counts .now) (i .numbers .now) (i .temps .now) (i .heaters .now) (i .thermostats .now) (i .flags .now) in
+    let r = reportIn (i .totals .now) (i .figures .now) (i .line-flags .now) (i .rounds .now) in
+    let a = stepIn (i .feed) (i .asked .now) (i .volumes .now) (i .present .now) (i .points .now) in
+    let worked = rw (c .before .before .before .before .before .before .before .before .before .before .before .before .before .before .before .before .before .before .before .before .before .before .flags-in .ensures, c .before .before .before .before .before .before .before .before .before .before .before .before .before .before .before .before .before .before .before .before .present-in .ensures, c .before .before .before .before .before .before .before .before .before .before .before .before .before .before .before .before .before .flags-in2 .ensures) at (w .ensures .0) in
+    let z = c .before .before .before .if1 .left in
+    worked-left (i .counts .now) (i .numbers .now) (i .temps .now) (i .heaters .now) (i .thermostats .now) (i .flags .now) (l .0) (l .1) (l .2) (i .totals .now) (i .figures .now) (i .line-flags .now) (i .rounds .now) (l .3) (l .4) (l .5) a (w .result) _ _ _ _ _ _ _ _ (step-accepts t r a (w .result) _ _ _ worked z) (c .before .totals-of .ensures) (w .ensures .1 z) (c .before .before .bytes-of .ensures) (c .bytes-of2 .ensures)
 
 pub huszmago-step-spec : {M : Type 1} → statement M
 huszmago-step-spec =
@@ -77,10 +99,15 @@ huszmago-step-spec =
     element-copy-out-t46
     element-copy-out-t49
     element-copy-out-t52
+    flags-in-requires
+    present-in-requires
+    flags-in-requires-2
     element-copy-out-work-step-2
     element-copy-out-work-step-3
     element-copy-out-work-step-4
     work-step-requires
     returns
+    bytes-of-requires
     totals-of-requires
+    bytes-of-requires-2
     returns-2)
