@@ -87,13 +87,13 @@ class Maker:
 
 
 def window_ends(data):
-    """Where the windows of a well-formed job end: each begins at the first record that the one before it did not run."""
-    begin, at, ends = 0, 0, []
-    while begin + WINDOW <= len(data):
-        ends.append(begin + WINDOW)
-        while at + LONGEST <= begin + WINDOW:
-            at += 4 + struct.unpack_from("<I", data, at)[0]
-        begin = at
+    """Where the windows of a well-formed job end. A window begins at the first record that the one before did not run,
+    because the longest record would reach past its end."""
+    at, ends = 0, [WINDOW]
+    while at < len(data):
+        if at + LONGEST > ends[-1]:
+            ends.append(at + WINDOW)
+        at += 4 + struct.unpack_from("<I", data, at)[0]
     return ends
 
 
@@ -129,7 +129,7 @@ def two_years():
 
 
 def windows():
-    """Past two windows and a half, steps of 65,535 draws among them; then a record of no kind, and a step that is not read."""
+    """Two windows and a half, steps of 65,535 draws among them; then a record of no kind, and a step not read."""
     maker = Maker("windows", 3, 1).to(WINDOW - 20)
     for _ in range(3):
         maker.many(65535)
