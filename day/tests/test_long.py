@@ -21,7 +21,8 @@ BUILT = os.path.join(ROOT, "target", "bin")
 # heater 2 is never asked for.
 YEAR = 365 * 48
 WINDOW = 1 << 20  # bytes that long_job and history read at a time
-HEATERS = "".join("heater rated power %s kW, position %s of height\n" % pair for pair in ((2, 0.1), (0.1, 0.5), (1, 0.9)))
+FITTED = ((2, 0.1), (0.1, 0.5), (1, 0.9))
+HEATERS = "".join("heater rated power %s kW, position %s of height\n" % pair for pair in FITTED)
 STEP = "step feed %s C%s, heater 0 lower 40 C upper 50 C, heater 1 %supper 90 C, heater 2 none\n"
 
 
