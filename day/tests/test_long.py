@@ -1,17 +1,12 @@
-"""Days of any length: long_job is asked where job does not read all, and nothing is cut.
-
-The programs are those of target/bin. Where long_job is not there, document 01 in Python stands in for it and for
-history, so that what day does with a long day is tried; day/test itself asks for long_job to be built.
-"""
+"""Days of any length: long_job is asked where job does not read all, and nothing is cut."""
 
 import csv
 import io
 import os
-import sys
 import time
 import unittest
 
-from common import ROOT, TESTS, Folder, at_once, bits, day_of, tank
+from common import ROOT, Folder, at_once, bits, day_of, tank
 import programs
 import records
 import second_opinion
@@ -21,19 +16,14 @@ import why
 model = second_opinion.model
 
 BUILT = os.path.join(ROOT, "target", "bin")
-STAND_IN = """#!{python}
-import sys
-sys.path[:0] = [{tests!r}]
-import second_opinion
-second_opinion.model.MOST_BYTES = 1 << 60
-for line in second_opinion.{lines}(sys.stdin.buffer.read()):
-    print(line)
-"""
 
-# A year of half hours. Heater 0 goes on and off; heater 1 comes on in step 700 and never reaches its upper set point.
+# A year of half hours. Heater 0 goes on and off; heater 1 comes on in step 700 and never reaches its upper set point;
+# heater 2 is never asked for.
 YEAR = 365 * 48
-HEATERS = "heater rated power 2 kW, position 0.1 of height\nheater rated power 0.1 kW, position 0.5 of height\n"
-STEP = "step feed %s C%s, heater 0 lower 40 C upper 50 C, heater 1 %supper 90 C\n"
+WINDOW = 1 << 20  # bytes that long_job and history read at a time
+FITTED = ((2, 0.1), (0.1, 0.5), (1, 0.9))
+HEATERS = "".join("heater rated power %s kW, position %s of height\n" % pair for pair in FITTED)
+STEP = "step feed %s C%s, heater 0 lower 40 C upper 50 C, heater 1 %supper 90 C, heater 2 none\n"
 
 
 def year(steps=YEAR):
@@ -55,21 +45,20 @@ def by_01(lines_of, job):
 
 
 class Long(Folder):
+    """The programs, but for a job that must not be asked."""
+
     def setUp(self):
         super().setUp()
         self.programs = self.program("job", "#!/bin/sh\necho asked in place of long_job >&2\n")
-        if os.access(os.path.join(BUILT, "long_job"), os.X_OK):
-            for name in ("long_job", "history"):
-                os.symlink(os.path.join(BUILT, name), os.path.join(self.programs, name))
-        else:
-            for name, lines in (("long_job", "model.job_lines"), ("history", "history_lines")):
-                self.program(name, STAND_IN.format(python=sys.executable, tests=TESTS, lines=lines))
+        for name in ("long_job", "history"):
+            os.symlink(os.path.join(BUILT, name), os.path.join(self.programs, name))
 
 
 class Year(Long):
     @classmethod
     def setUpClass(cls):
         cls.job = records.job_bytes(day_of(year()))
+        assert len(cls.job) > WINDOW
 
     def setUp(self):
         super().setUp()
