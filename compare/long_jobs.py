@@ -129,11 +129,15 @@ def two_years():
 
 
 def windows():
-    """Two windows and a half, steps of 65,535 draws among them; then a record of no kind, and a step not read."""
-    maker = Maker("windows", 3, 1).to(WINDOW - 20)
-    for _ in range(3):
+    """The longest record 8 bytes past the first window's end, a step whose draws begin after the second one's, two of
+    the longest more; after two windows and a half a record of no kind, and a step that is not read."""
+    maker = Maker("windows", 3, 8).to(WINDOW - LONGEST + 8)
+    maker.many(65535)
+    maker.to(window_ends(maker.data)[1] - 16)
+    maker.step(3)
+    for _ in range(2):
         maker.many(65535)
-        maker.to(len(maker.data) + 20000)
+        maker.to(len(maker.data) + 16000)
     maker.data += records.record(4, b"no kind")
     maker.step(2)
     return bytes(maker.data)
