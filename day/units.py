@@ -65,7 +65,7 @@ def number(word, factor=1):
 
 
 def converted(word, factor):
-    """The division of two whole numbers is rounded once, to the nearest double, and keeps its sign where that is zero."""
+    """The division of two whole numbers is rounded once, to the nearest double; a zero keeps its sign."""
     digits, _, power = word.lower().partition("e")
     far = len(power.lstrip("+-0")) > 9 or abs(int(power or 0)) > len(digits) + 1000
     if far or not digits.strip("+-.0"):

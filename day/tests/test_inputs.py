@@ -11,6 +11,8 @@ from common import DAY, ROOT, Folder, Terminal, at_once, but_progress, day_of, t
 import inputs
 import progress
 import records
+import report
+import turns
 
 TEXT = "# Ein Tag\n" + tank(layers=1) + "step feed 10 C\n" * 3
 JOB = records.job_bytes(day_of(TEXT))
@@ -232,6 +234,12 @@ class Progress(Folder):
             self.assertIn(("reading %s: byte" % path, len(data)), seen)
             self.assertIn(("reading %s: %s" % (path, kind), total), seen)
             self.assertGreater(len([count for count in counts if 0 < count < total]), 900)
+
+    def test_lines_of_the_programs_are_counted(self):
+        for read, line in ((lambda lines: report.read_report(lines, []), "S 0 7"), (turns.read_history, "S 0 7")):
+            with mock.patch("progress.at") as at:
+                read([line] * 20)
+            self.assertEqual([call[0][0] for call in at.call_args_list], list(range(20)))
 
     def test_what_has_no_count_says_how_long_it_takes(self):
         with mock.patch("time.monotonic", return_value=5.0):
