@@ -2,6 +2,7 @@
 
 import math
 
+from clock import steps_a_day
 from picture.svg import GREY, INK, PALE, Scale, box, line, place, tick_words, words
 
 # A laptop's screen of 1366 x 768 has some 1300 x 640 for a page.
@@ -12,8 +13,8 @@ MOST_BEGINS = 250  # more circles than these would hide one another
 
 
 def on_the_clock(length):
-    """Whether steps of so many hours go a whole number of times into a day, so that they have clock times."""
-    return 1 / 60 <= length <= 24 and (24 / length).is_integer()
+    """Whether steps of so many hours have clock times, as in the table; those of seconds would crowd an axis."""
+    return length >= 1 / 60 and steps_a_day(length) is not None
 
 
 def clock(hours):
