@@ -285,6 +285,7 @@ class Progress(Folder):
             with mock.patch("progress.now", lambda *words: seen.append(words)), mock.patch("progress.at") as at:
                 inputs.day_of(path)
             counts = [call[0][0] for call in at.call_args_list]
+            self.assertIn(len(data), counts)
             self.assertIn(("reading %s: byte" % path, len(data)), seen)
             self.assertIn(("reading %s: %s" % (path, kind), total), seen)
             self.assertGreater(len([count for count in counts if 0 < count < total]), 900)
