@@ -48,7 +48,7 @@ fn mix_event(mixes: bool, c: Cylinder, vol: &[f64; MAX_LAYERS], temps: &mut [f64
 {
     if mixes {
         let n = c.layers;
-        return number_of(mixing::rearrange::rearrange_temperatures(n, vol, temps));
+        return number_of(rearrange::rearrange_temperatures(n, vol, temps));
     }
     0
 }

@@ -85,7 +85,7 @@ fn step(tank: StorageTank, report: Report) {
 
 fn mix() {
     let mut layers = [50.0, 40.0];
-    let answer = mixing::mix::mix(&mut layers[..], 16.0); // MixAnswer::Mixed(1): one round, and layers 45, 45
+    let answer = rearrange::mix::mix(&mut layers[..], 16.0); // MixAnswer::Mixed(1): one round, and layers 45, 45
     print::mixed(answer);
     print::doubles(&layers);
 }

@@ -138,7 +138,7 @@ pub fn turn(
     let on = crate::switch::determine_heat_source_switch_on(p, temps[thermostat], flag);
     let before = *temps;
     crate::heat::calc_temps_with_energy_input(c, vol, on, energy, h.layer, temps);
-    let mixing = mixing::rearrange::rearrange_temperatures(c.layers, vol, temps);
+    let mixing = rearrange::rearrange_temperatures(c.layers, vol, temps);
     match mixing {
         MixAnswer::Mixed(rounds) => after_mixing(c, vol, h, p, on, rounds, &before, temps, charged),
         MixAnswer::Refused(_) => {

@@ -41,6 +41,9 @@ pub record Walk : Type 0 where
   pub temps : List Float
   pub bottom : ℕ
 
+abbrev pub walkAt : List Float → ℕ → Walk
+walkAt temps bottom = record { temps = temps; bottom = bottom }
+
 -- the pair of the layers i and i + 1: it joins the group, whose layers all take the group's temperature; or it ends the group
 unfoldable pub pair : ℕ → List Float → ℕ → Walk → Walk
 pair n vol i w =

@@ -51,7 +51,7 @@ pub extern "C" fn huszmago_mix(layers: &mut [f64], layer_volume: f64, rounds: &m
     ensures leaves { λ r. ⌜ now (layers .exit) ≡ mixLayers (now (layers .entry)) «layer_volume» ⌝ }
     ensures runs { λ r. ⌜ now (rounds .exit) ≡ mixRounds (now (layers .entry)) «layer_volume» ∷ [] ⌝ }
 {
-    let a = mixing::mix::mix(layers, layer_volume);
+    let a = rearrange::mix::mix(layers, layer_volume);
     let n = rounds_of(a);
     *rounds = [n];
     number_of(a)
