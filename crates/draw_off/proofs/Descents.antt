@@ -7,6 +7,7 @@ use lib.Ieee.{Float}
 use Rattle.numeric.specs.Descent.{descend}
 use Rattle.cylinder.specs.declared.Cylinder.{Cylinder}
 use Rattle.cylinder.specs.Layers.{noVolume}
+use Rattle.draw_off.specs.declared.cold.Feed.{Feed}
 use Rattle.draw_off.specs.Draw.{Draw, drawLayer, drawLayers}
 use Rattle.draw_off.specs.Refill.{Filling, Refill, takeFrom, takeBelow, lackOf, refillLayer, refillLayers}
 
@@ -18,13 +19,13 @@ restNone i d = noVolume (d .rest)
 abbrev pub lackNone : ℕ → Filling → Bool
 lackNone j f = noVolume (f .lack)
 
-module _ (c : Cylinder) (feed : Float) (temps : List Float) (wanted : Float) where
+module _ (c : Cylinder) (feed : Feed) (temps : List Float) (wanted : Float) where
   pub draw-descends : (n : ℕ) (d : Draw) → drawLayers c feed temps wanted n d ≡ descend restNone (drawLayer c feed temps wanted) n d
   unfolding drawLayers descend
   draw-descends zero d = refl
   draw-descends (suc i) d = rw (draw-descends i (drawLayer c feed temps wanted i d))
 
-module _ (vol : List Float) (feed : Float) (before : List Float) where
+module _ (vol : List Float) (feed : Feed) (before : List Float) where
   pub donors-descend : (n : ℕ) (f : Filling) → takeBelow vol feed before n f ≡ descend lackNone (takeFrom vol feed before) n f
   unfolding takeBelow descend
   donors-descend zero f = refl

@@ -8,6 +8,7 @@ use lib.Ieee.{Float, nan}
 use Rattle.numeric.specs.Double.{_⊖_, _⊘_}
 use Rattle.numeric.specs.Descent.{descend}
 use Rattle.cylinder.specs.Layers.{noVolume}
+use Rattle.draw_off.specs.declared.cold.Feed.{Feed}
 use Rattle.draw_off.specs.declared.refill.LayerFilling.{LayerFilling}
 use Rattle.draw_off.specs.Refill.{takeFrom, takeBelow, fromFeed, entersWarmer, fillingOf, refillLayer}
 use Rattle.draw_off.specs.Lent.{fillingWith, startFilling, refillOf}
@@ -18,13 +19,13 @@ pub lack-told : (full held t : Float) (s : LayerFilling) (r b : Bool) → s ≡ 
 lack-told full held t s r b starts test told = rw starts at (sym test ∙ told)
 
 -- the filling of the layer i: s as it starts, f after the donors, which leave `given`, g after the feed; b says whether the event now ends in a mixing
-pub record LayerParts (vol : List Float) (feed : Float) (before : List Float) (i : ℕ) (held : List Float) (mixes : Bool) (given : List Float) (s f g : LayerFilling) (b : Bool) : Type 0 where
+pub record LayerParts (vol : List Float) (feed : Feed) (before : List Float) (i : ℕ) (held : List Float) (mixes : Bool) (given : List Float) (s f g : LayerFilling) (b : Bool) : Type 0 where
   pub starts : s ≡ startFilling (getD vol i nan) (getD held i nan) (getD before i nan)
   pub donors : fillingWith given f ≡ descend lackNone (takeFrom vol feed before) i (fillingWith held s)
   pub fed : fillingWith given g ≡ fromFeed vol feed before (fillingWith given f)
   pub warmer : b ≡ (mixes || entersWarmer vol feed before (fillingWith given f))
 
-pub layer-refilled : (vol : List Float) (feed : Float) (before : List Float) (i : ℕ) (held temps : List Float) (mixes : Bool) (given : List Float) (s f g : LayerFilling) (b : Bool) → LayerParts vol feed before i held mixes given s f g b → refillOf (set given i (g .volume)) (set temps i (g .weighted ⊘ g .volume)) b ≡ refillLayer vol feed before i (refillOf held temps mixes)
+pub layer-refilled : (vol : List Float) (feed : Feed) (before : List Float) (i : ℕ) (held temps : List Float) (mixes : Bool) (given : List Float) (s f g : LayerFilling) (b : Bool) → LayerParts vol feed before i held mixes given s f g b → refillOf (set given i (g .volume)) (set temps i (g .weighted ⊘ g .volume)) b ≡ refillLayer vol feed before i (refillOf held temps mixes)
 unfolding refillLayer fillingOf
 layer-refilled vol feed before i held temps mixes given s f g b p =
     let below : fillingWith given f ≡ takeBelow vol feed before i (fillingWith held (startFilling (getD vol i nan) (getD held i nan) (getD before i nan))) = rw donors-descend (rw (p .starts) at (p .donors)) in

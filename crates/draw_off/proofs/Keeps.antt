@@ -8,14 +8,14 @@ use Rattle.numeric.specs.Descent.{descend-keeps}
 use Rattle.numeric.specs.Places.{Keeps, keeps-self, keeps-trans, keeps-set}
 use Rattle.mixing.proofs.Keeps.{rearrange-keeps}
 use Rattle.cylinder.specs.declared.Cylinder.{Cylinder}
-use Rattle.cylinder.specs.Layers.{layerVolumes}
+use Rattle.draw_off.specs.declared.cold.Feed.{Feed}
 use Rattle.draw_off.specs.declared.Totals.{Totals}
 use Rattle.draw_off.specs.Draw.{extract}
 use Rattle.draw_off.specs.Refill.{Refill, refillLayer, refill}
 use Rattle.draw_off.specs.Event.{eventMixing, mixedTemps, eventOf, tempsAfterEvent, totalsAfterEvent, eventNumber, drawAll}
 use Rattle.draw_off.proofs.Descents.{lacksNone, refill-descends}
 
-module _ (n : ℕ) (vol : List Float) (feed : Float) (before held : List Float) where
+module _ (n : ℕ) (vol : List Float) (feed : Feed) (before held : List Float) where
   abbrev TempsKept : Refill → Type 0
   TempsKept r = Keeps n before (r .temps)
 
@@ -31,22 +31,24 @@ module _ (n : ℕ) (vol : List Float) (feed : Float) (before held : List Float) 
 
 -- ---- the layers after an event, and after all
 
-mixing-keeps : (b : Bool) (c : Cylinder) (temps : List Float) → Keeps (c .layers) temps (mixedTemps temps (eventMixing b c temps))
+mixing-keeps : (b : Bool) (n : ℕ) (vol temps : List Float) → Keeps n temps (mixedTemps temps (eventMixing b n vol temps))
 unfolding eventMixing
-mixing-keeps false c temps = keeps-self (c .layers) temps
-mixing-keeps true c temps = rearrange-keeps (c .layers) (layerVolumes c) temps
+mixing-keeps false n vol temps = keeps-self n temps
+mixing-keeps true n vol temps = rearrange-keeps n vol temps
 
-pub event-keeps : (c : Cylinder) (feed wanted : Float) (temps : List Float) (t : Totals) → Keeps (c .layers) temps (tempsAfterEvent (eventOf c feed wanted temps t))
+pub event-keeps : (c : Cylinder) (vol : List Float) (feed : Feed) (wanted : Float) (temps : List Float) (t : Totals)
+    → Keeps (c .layers) temps (tempsAfterEvent (eventOf c vol feed wanted temps t))
 unfolding eventOf tempsAfterEvent
-event-keeps c feed wanted temps t =
-    let held = extract c (layerVolumes c) feed temps wanted (t .weighted) (t .drawn) .held in
-    let filled = refill (c .layers) (layerVolumes c) feed temps held in
-    keeps-trans (c .layers) temps (filled .temps) _ (refill-keeps-temps (c .layers) (layerVolumes c) feed temps held) (mixing-keeps (filled .mixes) c (filled .temps))
+event-keeps c vol feed wanted temps t =
+    let held = extract c vol feed temps wanted (t .weighted) (t .drawn) .held in
+    let filled = refill (c .layers) vol feed temps held in
+    keeps-trans (c .layers) temps (filled .temps) _ (refill-keeps-temps (c .layers) vol feed temps held) (mixing-keeps (filled .mixes) (c .layers) vol (filled .temps))
 
-pub events-keep : (c : Cylinder) (feed : Float) (vs : List Float) (n : ℕ) (temps : List Float) (t : Totals) → Keeps (c .layers) temps (drawAll c feed vs n temps t .end .temps)
+pub events-keep : (c : Cylinder) (vol : List Float) (feed : Feed) (vs : List Float) (n : ℕ) (temps : List Float) (t : Totals)
+    → Keeps (c .layers) temps (drawAll c vol feed vs n temps t .end .temps)
 unfolding drawAll
-events-keep c feed [] n temps t = keeps-self (c .layers) temps
-events-keep c feed (v ∷ vs) (suc n) temps t = keeps-self (c .layers) temps
-events-keep c feed (v ∷ vs) zero temps t =
-    let e = eventOf c feed v temps t in
-    keeps-trans (c .layers) temps (tempsAfterEvent e) _ (event-keeps c feed v temps t) (events-keep c feed vs (eventNumber c e t) (tempsAfterEvent e) (totalsAfterEvent c e t))
+events-keep c vol feed [] n temps t = keeps-self (c .layers) temps
+events-keep c vol feed (v ∷ vs) (suc n) temps t = keeps-self (c .layers) temps
+events-keep c vol feed (v ∷ vs) zero temps t =
+    let e = eventOf c vol feed v temps t in
+    keeps-trans (c .layers) temps (tempsAfterEvent e) _ (event-keeps c vol feed v temps t) (events-keep c vol feed vs (eventNumber c e t) (tempsAfterEvent e) (totalsAfterEvent c e t))

@@ -1,10 +1,11 @@
 -- Proves what is left where nothing is drawn (01, Draw; Refill): with no events nothing changes; an event of 0 leaves the layers, adds no energy, and uses the
 -- tank's volume - Sum2 of the full layers, which need not be 0.
-use Prim.Native.Nat.{ℕ, zero, suc, _≤_}
+use Prim.Native.Nat.{ℕ, zero, suc, _≤_, _<_}
+use native.Mathlib.Omega.{arith}
 use mathlib.Core.Bool.{true, false}
 use mathlib.Core.Path.{_≡_, refl}
 use mathlib.Core.List.{List, []}
-use lib.ListN.{getD, getD-replicate}
+use lib.ListN.{getD}
 use lib.Ieee.{Float, nan, lt, eq, add, sub, div, neg, ofBits, ofInt}
 use lib.Ieee.Scale.{finite}
 use Rattle.numeric.specs.Double.{dbl, whole, _⊕_, _⊖_, zero-f}
@@ -12,17 +13,18 @@ use Rattle.numeric.specs.Close.{close, wideClose}
 use Rattle.numeric.specs.Tabulate.{tabulate}
 use Rattle.numeric.specs.Sum2.{accumulate, accumulateAll, sum2}
 use Rattle.numeric.proofs.Difference.{minus-self}
-use Rattle.mixing.specs.Limits.{maxLayers}
 use Rattle.cylinder.specs.declared.Cylinder.{Cylinder}
 use Rattle.cylinder.specs.Layers.{layerVolume, layerVolumes, noVolume}
+use Rattle.draw_off.specs.declared.cold.Feed.{Feed}
 use Rattle.draw_off.specs.declared.Totals.{Totals}
 use Rattle.draw_off.specs.Draw.{Draw, drawLayers, drawFeed, extract, volumeUsed}
 use Rattle.draw_off.specs.Refill.{refillLayers, refill}
 use Rattle.draw_off.specs.Event.{unmixed, eventMixing, eventOf, tempsAfterEvent, totalsAfterEvent, drawAll}
 
-pub no-events : (c : Cylinder) (feed : Float) (temps : List Float) (t : Totals) → drawAll c feed [] 0 temps t .end ≡ record { number = 0; temps = temps; totals = t }
+pub no-events : (c : Cylinder) (vol : List Float) (feed : Feed) (temps : List Float) (t : Totals)
+    → drawAll c vol feed [] 0 temps t .end ≡ record { number = 0; temps = temps; totals = t }
 unfolding drawAll
-no-events c feed temps t = refl
+no-events c vol feed temps t = refl
 
 -- a volume that draws nothing: no volume to speak of, and not above zero
 pub record DrawsNothing (wanted : Float) : Type 0 where
@@ -39,7 +41,7 @@ unfolding noVolume wideClose close lt eq neg ofBits
 minus-zero-draws-nothing = record { none = refl; rest = refl }
 
 -- the layers stay full, and no energy is drawn
-module _ (c : Cylinder) (vol : List Float) (feed : Float) (temps : List Float) (wanted : Float) (z : DrawsNothing wanted) where
+module _ (c : Cylinder) (vol : List Float) (feed : Feed) (temps : List Float) (wanted : Float) (z : DrawsNothing wanted) where
   layers-full : (n : ℕ) (d : Draw) → d .rest ≡ wanted → drawLayers c feed temps wanted n d ≡ d
   unfolding drawLayers
   layers-full zero d e = refl
@@ -51,36 +53,36 @@ module _ (c : Cylinder) (vol : List Float) (feed : Float) (temps : List Float) (
       let start : Draw = record { held = vol; rest = wanted; energy = zero-f; weighted = weighted; drawn = drawn } in
       rw (layers-full (c .layers) start refl, z .rest)
 
--- full layers take nothing
-module _ (c : Cylinder) (l : c .layers ≤ maxLayers) (f : finite (layerVolume c) ≡ true) where
-  full : (i : ℕ) → suc i ≤ maxLayers → noVolume (getD (layerVolumes c) i nan ⊖ getD (layerVolumes c) i nan) ≡ true
-  unfolding layerVolumes noVolume wideClose close lt eq ofBits
-  full i h = rw (getD-replicate maxLayers i (layerVolume c) nan h, minus-self (layerVolume c) f)
+-- full layers take nothing, where each has a finite volume
+module _ (c : Cylinder) (vol : List Float) (f : (i : ℕ) → i < c .layers → finite (getD vol i nan) ≡ true) where
+  full : (i : ℕ) → i < c .layers → noVolume (getD vol i nan ⊖ getD vol i nan) ≡ true
+  unfolding noVolume wideClose close lt eq ofBits
+  full i h = rw (minus-self (getD vol i nan) (f i h))
 
-  refill-nothing : (n : ℕ) (feed : Float) (temps : List Float) → n ≤ maxLayers → refill n (layerVolumes c) feed temps (layerVolumes c) ≡ record { held = layerVolumes c; temps = temps; mixes = false }
+  refill-nothing : (n : ℕ) (feed : Feed) (temps : List Float) → n ≤ c .layers → refill n vol feed temps vol ≡ record { held = vol; temps = temps; mixes = false }
   unfolding refill refillLayers
   refill-nothing zero feed temps h = refl
-  refill-nothing (suc i) feed temps h = rw (full i h)
+  refill-nothing (suc i) feed temps h = rw (full i (omega arith))
 
-  -- the law: the tank has no more layers than can be, and their volume is finite, as the checks see to
-  module _ (feed : Float) (temps : List Float) (wanted : Float) (z : DrawsNothing wanted) (t : Totals) where
-    pub event-of-nothing : eventOf c feed wanted temps t ≡ record {
+  -- the law
+  module _ (feed : Feed) (temps : List Float) (wanted : Float) (z : DrawsNothing wanted) (t : Totals) where
+    pub event-of-nothing : eventOf c vol feed wanted temps t ≡ record {
       wanted = wanted;
       before = temps;
-      draw = record { held = layerVolumes c; rest = wanted; energy = zero-f; weighted = t .weighted; drawn = t .drawn };
-      refill = record { held = layerVolumes c; temps = temps; mixes = false };
+      draw = record { held = vol; rest = wanted; energy = zero-f; weighted = t .weighted; drawn = t .drawn };
+      refill = record { held = vol; temps = temps; mixes = false };
       mixing = unmixed;
     }
     unfolding eventOf eventMixing
-    event-of-nothing = rw (extract-nothing c (layerVolumes c) feed temps wanted z (t .weighted) (t .drawn), refill-nothing (c .layers) feed temps l)
+    event-of-nothing = rw (extract-nothing c vol feed temps wanted z (t .weighted) (t .drawn), refill-nothing (c .layers) feed temps (omega arith))
 
-    pub nothing-leaves-temps : tempsAfterEvent (eventOf c feed wanted temps t) ≡ temps
+    pub nothing-leaves-temps : tempsAfterEvent (eventOf c vol feed wanted temps t) ≡ temps
     unfolding tempsAfterEvent
     nothing-leaves-temps = rw event-of-nothing
 
-    pub nothing-adds : totalsAfterEvent c (eventOf c feed wanted temps t) t ≡ record {
+    pub nothing-adds : totalsAfterEvent c (eventOf c vol feed wanted temps t) t ≡ record {
       energy = t .energy ⊕ zero-f;
-      used = t .used ⊕ (c .volume ⊖ sum2 (tabulate (λ (k : ℕ). getD (layerVolumes c) k nan) (c .layers) 0));
+      used = t .used ⊕ (c .volume ⊖ sum2 (tabulate (λ (k : ℕ). getD vol k nan) (c .layers) 0));
       weighted = t .weighted;
       drawn = t .drawn;
     }

@@ -10,13 +10,14 @@ use lib.Seq.{getD-set-other}
 use lib.Ieee.{Float, nan}
 use Rattle.numeric.specs.Descent.{Descent, descent-next}
 use Rattle.cylinder.specs.Layers.{noVolume}
+use Rattle.draw_off.specs.declared.cold.Feed.{Feed}
 use Rattle.draw_off.specs.Refill.{Filling, Refill, takeShare, takeFrom, takeBelow, fromFeed, entersWarmer, lackOf, fillingOf, refillLayer}
 use Rattle.draw_off.specs.Lent.{refillOf}
 use Rattle.draw_off.proofs.Descents.{lacksNone}
 use Rattle.draw_off.proofs.Untouched.{SameBelow}
 
 -- a layer is filled alike from temperatures that agree up to it
-module _ (vol : List Float) (feed : Float) (xs ys : List Float) where
+module _ (vol : List Float) (feed : Feed) (xs ys : List Float) where
   donors-same : (j : ℕ) (f : Filling) → SameBelow j xs ys → takeBelow vol feed xs j f ≡ takeBelow vol feed ys j f
   unfolding takeBelow takeFrom takeShare
   donors-same zero f same = refl
@@ -26,7 +27,7 @@ module _ (vol : List Float) (feed : Float) (xs ys : List Float) where
   unfolding refillLayer fillingOf fromFeed entersWarmer
   layer-same i r same = rw (same i (omega arith), donors-same i _ (λ k l. same k (omega arith)))
 
-module _ (vol : List Float) (feed : Float) (before : List Float) (n : ℕ) (start : Refill) where
+module _ (vol : List Float) (feed : Feed) (before : List Float) (n : ℕ) (start : Refill) where
   -- where the refill has come to: the layers below i are left, and still have the temperatures from before the event
   pub record RefillLeft (i : ℕ) (held temps : List Float) (mixes : Bool) : Type 0 where
     pub descent : Descent (lacksNone vol feed before) (refillLayer vol feed before) n start i (refillOf held temps mixes)

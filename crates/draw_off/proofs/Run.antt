@@ -14,6 +14,7 @@ use Rattle.numeric.specs.Compare.{minOf2}
 use Rattle.numeric.specs.Close.{wideClose, close}
 use Rattle.numeric.proofs.Difference.{minus-self}
 use Rattle.cylinder.specs.Layers.{noVolume}
+use Rattle.draw_off.specs.declared.cold.Feed.{Feed}
 use Rattle.draw_off.specs.declared.refill.KeptFilling.{KeptFilling}
 use Rattle.draw_off.specs.Refill.{Filling, takeShare, takeFrom, takeBelow, fromFeed, entersWarmer, lackOf, fillingOf, refillLayer}
 use Rattle.draw_off.specs.Lent.{refillOf}
@@ -45,7 +46,7 @@ or-false true = refl
 or-false false = refl
 
 -- ---- a layer whose lack the layer below it closes
-module _ (vol : List Float) (feed : Float) (before : List Float) where
+module _ (vol : List Float) (feed : Feed) (before : List Float) where
   closed : (j : ℕ) (f : Filling) → noVolume (f .lack) ≡ true → takeBelow vol feed before j f ≡ f
   unfolding takeBelow
   closed zero f h = refl
@@ -92,7 +93,7 @@ module _ (vol held : List Float) (i : ℕ) (kept : KeptFilling) (o : OverFull vo
   heldAfter = set (set held (i - 1) (kept .held)) i (kept .after)
 
   -- it is filled as the refill fills it
-  pub layer-repeated : (feed : Float) (temps : List Float) (mixes : Bool) → refillOf heldAfter (set temps i ((kept .held ⊛ getD temps i nan ⊕ kept .lack ⊛ getD temps (i - 1) nan) ⊘ kept .after)) mixes ≡ refillLayer vol feed temps i (refillOf held temps mixes)
+  pub layer-repeated : (feed : Feed) (temps : List Float) (mixes : Bool) → refillOf heldAfter (set temps i ((kept .held ⊛ getD temps i nan ⊕ kept .lack ⊛ getD temps (i - 1) nan) ⊘ kept .after)) mixes ≡ refillLayer vol feed temps i (refillOf held temps mixes)
   layer-repeated feed temps mixes =
       let u = o .upper in
       let r = u .repeats in

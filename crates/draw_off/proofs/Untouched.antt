@@ -15,6 +15,7 @@ use Rattle.numeric.specs.Iterate.{iterate, iterate-split}
 use Rattle.numeric.specs.Sum2.{accumulate, nothing-added, addAt}
 use Rattle.cylinder.specs.declared.Cylinder.{Cylinder}
 use Rattle.cylinder.specs.Layers.{noVolume}
+use Rattle.draw_off.specs.declared.cold.Feed.{Feed}
 use Rattle.draw_off.specs.declared.draw.Drawn.{Drawn}
 use Rattle.draw_off.specs.declared.kept.KeptSum.{KeptSum}
 use Rattle.draw_off.specs.Draw.{Draw, drawShare, drawLayer, drawLayers, unreached, drawFeed, drawStart, extract, untouched}
@@ -26,7 +27,7 @@ use Rattle.draw_off.proofs.Descents.{restNone}
 abbrev pub SameBelow : ℕ → List Float → List Float → Type 0
 SameBelow n xs ys = (k : ℕ) → k < n → getD xs k nan ≡ getD ys k nan
 
-module _ (c : Cylinder) (feed : Float) (temps : List Float) (wanted : Float) where
+module _ (c : Cylinder) (feed : Feed) (temps : List Float) (wanted : Float) where
   -- the layer i leaves those below it
   layer-leaves : (i : ℕ) (d : Draw) → SameBelow i (drawLayer c feed temps wanted i d .held) (d .held)
   unfolding drawLayer drawShare
@@ -103,7 +104,7 @@ module _ (xs ys : List Float) (n : ℕ) (same : SameBelow n xs ys) where
   sum-moved kept e s = s ∙ rw e (sym (terms-same n 0 nothing-added (omega arith)))
 
 -- ---- what the draw did not reach, and its sum
-module _ (c : Cylinder) (feed : Float) (temps : List Float) (wanted : Float) (vol : List Float) (weighted drawn : Float) where
+module _ (c : Cylinder) (feed : Feed) (temps : List Float) (wanted : Float) (vol : List Float) (weighted drawn : Float) where
   pub untouched-within : untouched c vol feed temps wanted weighted drawn ≤ c .layers
   unfolding untouched
   untouched-within = reach-within c feed temps wanted (c .layers) (drawStart vol wanted weighted drawn)

@@ -9,8 +9,9 @@ use Rattle.numeric.specs.Double.{_⊕_}
 use Rattle.mixing.specs.Rearrange.{Mixing, sorted, unsorted, rearrange}
 use Rattle.mixing.specs.Mix.{tempsOf}
 use Rattle.cylinder.specs.declared.Cylinder.{Cylinder}
-use Rattle.cylinder.specs.Layers.{layerVolumes, allFinite}
+use Rattle.cylinder.specs.Layers.{allFinite}
 use Rattle.draw_off.specs.declared.Totals.{Totals}
+use Rattle.draw_off.specs.declared.cold.Feed.{Feed}
 use Rattle.draw_off.specs.Draw.{Draw, extract, volumeUsed}
 use Rattle.draw_off.specs.Refill.{Refill, refill}
 
@@ -27,16 +28,17 @@ pub record Event : Type 0 where
   pub refill : Refill
   pub mixing : EventMixing
 
-unfoldable pub eventMixing : Bool → Cylinder → List Float → EventMixing
-eventMixing false c temps = unmixed
-eventMixing true c temps = mixed (rearrange (c .layers) (layerVolumes c) temps)
+-- of n layers of the volumes `vol`, where the refill says that it does
+unfoldable pub eventMixing : Bool → ℕ → List Float → List Float → EventMixing
+eventMixing false n vol temps = unmixed
+eventMixing true n vol temps = mixed (rearrange n vol temps)
 
--- the event of the volume `wanted`, on the layers `temps`, where the step has drawn `t` so far
-unfoldable pub eventOf : Cylinder → Float → Float → List Float → Totals → Event
-eventOf c feed wanted temps t =
-    let draw = extract c (layerVolumes c) feed temps wanted (t .weighted) (t .drawn) in
-    let filled = refill (c .layers) (layerVolumes c) feed temps (draw .held) in
-    record { wanted = wanted; before = temps; draw = draw; refill = filled; mixing = eventMixing (filled .mixes) c (filled .temps) }
+-- the event of the volume `wanted`, on the layers `temps` of the volumes `vol`, where the step has drawn `t` so far
+unfoldable pub eventOf : Cylinder → List Float → Feed → Float → List Float → Totals → Event
+eventOf c vol feed wanted temps t =
+    let draw = extract c vol feed temps wanted (t .weighted) (t .drawn) in
+    let filled = refill (c .layers) vol feed temps (draw .held) in
+    record { wanted = wanted; before = temps; draw = draw; refill = filled; mixing = eventMixing (filled .mixes) (c .layers) vol (filled .temps) }
 
 -- the layers that an event hands on
 abbrev pub mixedTemps : List Float → EventMixing → List Float
@@ -86,10 +88,10 @@ abbrev pub noMore : Drawing → Drawings
 noMore d = record { events = []; end = d }
 
 -- the events of the volumes vs, from where those before them came to; a refused event ends them
-unfoldable pub drawAll : Cylinder → Float → List Float → ℕ → List Float → Totals → Drawings
-drawAll c feed [] n temps t = noMore (record { number = n; temps = temps; totals = t })
-drawAll c feed (v ∷ vs) (suc n) temps t = noMore (record { number = suc n; temps = temps; totals = t })
-drawAll c feed (v ∷ vs) zero temps t =
-    let e = eventOf c feed v temps t in
-    let rest = drawAll c feed vs (eventNumber c e t) (tempsAfterEvent e) (totalsAfterEvent c e t) in
+unfoldable pub drawAll : Cylinder → List Float → Feed → List Float → ℕ → List Float → Totals → Drawings
+drawAll c vol feed [] n temps t = noMore (record { number = n; temps = temps; totals = t })
+drawAll c vol feed (v ∷ vs) (suc n) temps t = noMore (record { number = suc n; temps = temps; totals = t })
+drawAll c vol feed (v ∷ vs) zero temps t =
+    let e = eventOf c vol feed v temps t in
+    let rest = drawAll c vol feed vs (eventNumber c e t) (tempsAfterEvent e) (totalsAfterEvent c e t) in
     record { events = e ∷ rest .events; end = rest .end }

@@ -1,6 +1,7 @@
 -- States how the code holds what the definitions speak of (01, Draw; Refill): the layers in lent arrays, the numbers beside them in small structs.
 use Prim.Native.Nat.{ℕ}
-use mathlib.Core.Bool.{Bool}
+use mathlib.Core.Path.{_≡_}
+use mathlib.Core.Bool.{Bool, true}
 use mathlib.Core.List.{List}
 use lib.Ieee.{Float}
 use Rattle.numeric.specs.Double.{_⊖_, _⊛_}
@@ -11,7 +12,7 @@ use Rattle.draw_off.specs.declared.refill.LayerFilling.{LayerFilling}
 use Rattle.draw_off.specs.declared.event.EventAnswer.{EventAnswer}
 use Rattle.draw_off.specs.Draw.{Draw}
 use Rattle.draw_off.specs.Refill.{Filling, Refill}
-use Rattle.draw_off.specs.Event.{Event, Drawing, eventNumber, tempsAfterEvent, totalsAfterEvent}
+use Rattle.draw_off.specs.Event.{EventMixing, Event, Drawing, mixedTemps, numberAfter, eventNumber, tempsAfterEvent, totalsAfterEvent}
 
 -- `MAX_EVENTS` of the code (01, refusal 6)
 abbrev pub maxEvents : ℕ
@@ -31,6 +32,11 @@ startFilling full held t = record { lack = full ⊖ held; volume = held; weighte
 
 abbrev pub refillOf : List Float → List Float → Bool → Refill
 refillOf held temps mixes = record { held = held; temps = temps; mixes = mixes }
+
+-- the mixing m that ends an event on the layers `temps`, or none, is worked: the number that it draws or 0, and the layers that it hands on
+pub record MixingWorked (m : EventMixing) (temps : List Float) (number : ℕ) (after : List Float) : Type 0 where
+  pub draws : number ≡ numberAfter m true
+  pub leaves : after ≡ mixedTemps temps m
 
 -- where the events have come to: the layers, and what the code answers
 abbrev pub drawingOf : List Float → EventAnswer → Drawing

@@ -8,6 +8,7 @@ use lib.Ieee.{Float, nan, lt}
 use Rattle.numeric.specs.Double.{_⊕_, _⊖_, _⊛_, _⊘_, zero-f}
 use Rattle.numeric.specs.Compare.{minOf2}
 use Rattle.cylinder.specs.Layers.{noVolume}
+use Rattle.draw_off.specs.declared.cold.Feed.{Feed}
 use Rattle.draw_off.specs.Cold.{cold}
 
 -- the filling of one layer: what the layers still hold, what this one lacks, the volume it has, that volume weighted by temperature, and the coldest
@@ -25,7 +26,7 @@ pub record Refill : Type 0 where
   pub temps : List Float
   pub mixes : Bool
 
-module _ (vol : List Float) (feed : Float) (before : List Float) where
+module _ (vol : List Float) (feed : Feed) (before : List Float) where
   -- the layer j gives what is lacking, or all that it holds
   unfoldable pub takeShare : ℕ → Filling → Filling
   takeShare j f =
@@ -95,5 +96,5 @@ module _ (vol : List Float) (feed : Float) (before : List Float) where
   refillLayers zero r = r
   refillLayers (suc i) r = cond (noVolume (lackOf i (r .held))) r (refillLayers i (refillLayer i r))
 
-unfoldable pub refill : ℕ → List Float → Float → List Float → List Float → Refill
+unfoldable pub refill : ℕ → List Float → Feed → List Float → List Float → Refill
 refill n vol feed before held = refillLayers vol feed before n (record { held = held; temps = before; mixes = false })

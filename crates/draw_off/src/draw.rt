@@ -8,6 +8,7 @@ ghost use Rattle.draw_off.specs.Draw.{givesAll, share, restAfter, counte
 ghost use Rattle.draw_off.specs.Draw.{extract, untouched, volumeUsed};
 ghost use Rattle.draw_off.specs.Lent.{drawOf};
 ghost use Rattle.draw_off.specs.Kept.{IsSumOf};
+use crate::cold::Feed;
 use crate::kept::KeptSum;
 use cylinder::Cylinder;
 use mixing::limits::MAX_LAYERS;
@@ -68,7 +69,7 @@ fn count_share(c: Cylinder, v: f64, t: f64, cool: f64, rest: f64, d: Drawn) -> D
 // The layer i gives its share, over water at cold(event volume).
 fn draw_share(
     c: Cylinder,
-    feed: f64,
+    feed: Feed,
     temps: &[f64; MAX_LAYERS],
     wanted: f64,
     i: usize,
@@ -90,7 +91,7 @@ fn draw_share(
 // An emptied layer is skipped.
 fn draw_layer(
     c: Cylinder,
-    feed: f64,
+    feed: Feed,
     temps: &[f64; MAX_LAYERS],
     wanted: f64,
     i: usize,
@@ -109,7 +110,7 @@ fn draw_layer(
 // From the top down, until the rest wanted is none.
 fn draw_layers(
     c: Cylinder,
-    feed: f64,
+    feed: Feed,
     temps: &[f64; MAX_LAYERS],
     wanted: f64,
     held: &mut [f64; MAX_LAYERS],
@@ -132,14 +133,14 @@ fn draw_layers(
 }
 
 // A rest above zero, however small, comes from the feed.
-fn draw_feed(c: Cylinder, feed: f64, d: Drawn) -> Drawn
+fn draw_feed(c: Cylinder, feed: Feed, d: Drawn) -> Drawn
     ensures { λ r. ⌜ ((held temps : List Float) (wanted : Float) → drawOf held r ≡ drawFeed c feed temps wanted (drawOf held d)) ⌝ }
 {
     if d.rest > 0.0 {
         return count_share(
             c,
             d.rest,
-            feed,
+            feed.temperature,
             crate::cold::cold_temp(feed, d.rest),
             d.rest,
             d,
@@ -151,7 +152,7 @@ fn draw_feed(c: Cylinder, feed: f64, d: Drawn) -> Drawn
 // The event of the volume `wanted`: `held` comes with full layers, and is left with what each of them still holds.
 pub fn extract_hot_water(
     c: Cylinder,
-    feed: f64,
+    feed: Feed,
     temps: &[f64; MAX_LAYERS],
     wanted: f64,
     weighted: f64,

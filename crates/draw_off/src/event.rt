@@ -7,11 +7,11 @@ ghost use lib.ListN.{getD};
 ghost use Rattle.numeric.specs.Tabulate.{tabulate};
 ghost use Rattle.mixing.specs.Limits.{maxLayers};
 ghost use Rattle.mixing.specs.Mix.{numberOf};
-ghost use Rattle.cylinder.specs.Layers.{layerVolumes};
-ghost use Rattle.draw_off.specs.Event.{EventMixing, eventMixing, mixedTemps, numberAfter, eventFinite, eventOf, drawAll};
-ghost use Rattle.draw_off.specs.Lent.{maxEvents, drawingOf, drawingAfter};
+ghost use Rattle.draw_off.specs.Event.{EventMixing, eventMixing, numberAfter, eventFinite, eventOf, drawAll};
+ghost use Rattle.draw_off.specs.Lent.{maxEvents, MixingWorked, drawingOf, drawingAfter};
 ghost use Rattle.draw_off.specs.Kept.{IsSumOf};
 use crate::Totals;
+use crate::cold::Feed;
 use crate::kept::KeptSum;
 use cylinder::Cylinder;
 use mixing::MixAnswer;
@@ -42,12 +42,11 @@ fn number_of(a: MixAnswer) -> u8
 }
 
 // The mixing in which the event ends, if it does; the answer is 9 where that is refused, and else 0.
-fn mix_event(mixes: bool, c: Cylinder, vol: &[f64; MAX_LAYERS], temps: &mut [f64; MAX_LAYERS]) -> u8
-    requires { ⌜ (1 ≤ c .layers) × (c .layers ≤ maxLayers) × (now vol ≡ layerVolumes c) ⌝ }
-    ensures { λ r. ⌜ (r ≡ numberAfter (eventMixing mixes c (now (temps .entry))) true) × (now (temps .exit) ≡ mixedTemps (now (temps .entry)) (eventMixing mixes c (now (temps .entry)))) ⌝ }
+fn mix_event(mixes: bool, n: usize, vol: &[f64; MAX_LAYERS], temps: &mut [f64; MAX_LAYERS]) -> u8
+    requires { ⌜ (1 ≤ n) × (n ≤ maxLayers) ⌝ }
+    ensures { λ r. ⌜ MixingWorked (eventMixing mixes n (now (vol .entry)) (now (temps .entry))) (now (temps .entry)) r (now (temps .exit)) ⌝ }
 {
     if mixes {
-        let n = c.layers;
         return number_of(rearrange::rearrange_temperatures(n, vol, temps));
     }
     0
@@ -82,14 +81,16 @@ fn number_after(number: u8, finite: bool) -> u8
 pub fn draw_event(
     c: Cylinder,
     vol: &[f64; MAX_LAYERS],
-    feed: f64,
+    feed: Feed,
     wanted: f64,
     temps: &mut [f64; MAX_LAYERS],
     totals: Totals,
     kept: KeptSum,
 ) -> EventWorked
-    requires { ⌜ (1 ≤ c .layers) × (c .layers ≤ maxLayers) × (now vol ≡ layerVolumes c) × IsSumOf (now vol) kept ⌝ }
-    ensures { λ r. ⌜ (drawingOf (now (temps .exit)) (r .answer) ≡ drawingAfter c (eventOf c feed wanted (now (temps .entry)) totals) totals) × IsSumOf (now (vol .entry)) (r .kept) ⌝ }
+    requires { ⌜ (1 ≤ c .layers) × (c .layers ≤ maxLayers) × IsSumOf (now vol) kept ⌝ }
+    ensures event { λ r. ⌜ drawingOf (now (temps .exit)) (r .answer)
+        ≡ drawingAfter c (eventOf c (now (vol .entry)) feed wanted (now (temps .entry)) totals) totals ⌝ }
+    ensures keeps { λ r. ⌜ IsSumOf (now (vol .entry)) (r .kept) ⌝ }
 {
     let n = c.layers;
     let mut held = *vol;
@@ -110,7 +111,7 @@ pub fn draw_event(
         drawn: d.drawn,
     };
     let mixes = crate::refill::calc_temps_after_extraction(n, vol, feed, temps, &mut held);
-    let number = mix_event(mixes, c, vol, temps);
+    let number = mix_event(mixes, n, vol, temps);
     let answer = EventAnswer {
         number: number_after(number, is_event_finite(c, temps, after)),
         totals: after,
@@ -122,14 +123,14 @@ pub fn draw_event(
 pub fn draw_events(
     c: Cylinder,
     vol: &[f64; MAX_LAYERS],
-    feed: f64,
+    feed: Feed,
     n: usize,
     volumes: &[f64; MAX_EVENTS],
     temps: &mut [f64; MAX_LAYERS],
     totals: Totals,
 ) -> EventAnswer
-    requires { ⌜ (1 ≤ c .layers) × (c .layers ≤ maxLayers) × (now vol ≡ layerVolumes c) × (n ≤ maxEvents) ⌝ }
-    ensures { λ r. ⌜ drawingOf (now (temps .exit)) r ≡ drawAll c feed (tabulate (λ (i : ℕ). getD (now (volumes .entry)) i nan) n 0) 0 (now (temps .entry)) totals .end ⌝ }
+    requires { ⌜ (1 ≤ c .layers) × (c .layers ≤ maxLayers) × (n ≤ maxEvents) ⌝ }
+    ensures { λ r. ⌜ drawingOf (now (temps .exit)) r ≡ drawAll c (now (vol .entry)) feed (tabulate (λ (i : ℕ). getD (now (volumes .entry)) i nan) n 0) 0 (now (temps .entry)) totals .end ⌝ }
 {
     let mut t = totals;
     let mut kept = crate::kept::sum_of_none();

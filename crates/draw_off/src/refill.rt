@@ -5,9 +5,11 @@ ghost use mathlib.Core.List.{List};
 ghost use Prim.Native.Nat.{_-_, _≤_, _<_};
 ghost use lib.Ieee.{Float};
 ghost use Rattle.mixing.specs.Limits.{maxLayers};
+ghost use Rattle.draw_off.specs.declared.cold.Feed.{Feed};
 ghost use Rattle.draw_off.specs.Refill.{takeShare, takeFrom, fromFeed, entersWarmer, refill};
 ghost use Rattle.draw_off.specs.Lent.{startFilling, fillingWith, refillOf};
 ghost use Rattle.draw_off.specs.Run.{Repeats, RepeatsAt, OverFull};
+use crate::cold::Feed;
 use mixing::limits::MAX_LAYERS;
 
 // The filling of one layer: what it lacks, the volume it has, that volume weighted by temperature, and the coldest water met.
@@ -48,7 +50,7 @@ fn take_share(
     held: &mut [f64; MAX_LAYERS],
 ) -> LayerFilling
     requires { ⌜ j < maxLayers ⌝ }
-    ensures { λ r. ⌜ ((vol : List Float) (feed : Float) → fillingWith (now (held .exit)) r ≡ takeShare vol feed (now (before .entry)) j (fillingWith (now (held .entry)) f)) ⌝ }
+    ensures { λ r. ⌜ ((vol : List Float) (feed : Feed) → fillingWith (now (held .exit)) r ≡ takeShare vol feed (now (before .entry)) j (fillingWith (now (held .entry)) f)) ⌝ }
 {
     let h = held[j];
     let t = before[j];
@@ -70,7 +72,7 @@ fn take_from(
     held: &mut [f64; MAX_LAYERS],
 ) -> LayerFilling
     requires { ⌜ j < maxLayers ⌝ }
-    ensures { λ r. ⌜ ((vol : List Float) (feed : Float) → fillingWith (now (held .exit)) r ≡ takeFrom vol feed (now (before .entry)) j (fillingWith (now (held .entry)) f)) ⌝ }
+    ensures { λ r. ⌜ ((vol : List Float) (feed : Feed) → fillingWith (now (held .exit)) r ≡ takeFrom vol feed (now (before .entry)) j (fillingWith (now (held .entry)) f)) ⌝ }
 {
     if held[j] > 0.0 {
         return take_share(j, f, before, held);
@@ -79,7 +81,7 @@ fn take_from(
 }
 
 // A lack above zero enters from the feed, at cold(lack).
-fn take_from_feed(feed: f64, f: LayerFilling) -> LayerFilling
+fn take_from_feed(feed: Feed, f: LayerFilling) -> LayerFilling
     ensures { λ r. ⌜ ((vol before held : List Float) → fillingWith held r ≡ fromFeed vol feed before (fillingWith held f)) ⌝ }
 {
     let v = f.lack;
@@ -95,7 +97,7 @@ fn take_from_feed(feed: f64, f: LayerFilling) -> LayerFilling
 }
 
 // The feed's water is warmer than the coldest water met.
-fn does_enter_warmer(feed: f64, f: LayerFilling) -> bool
+fn does_enter_warmer(feed: Feed, f: LayerFilling) -> bool
     ensures { λ r. ⌜ ((vol before held : List Float) → r ≡ entersWarmer vol feed before (fillingWith held f)) ⌝ }
 {
     if f.lack > 0.0 {
@@ -177,7 +179,7 @@ fn is_over_full(
 pub fn calc_temps_after_extraction(
     n: usize,
     vol: &[f64; MAX_LAYERS],
-    feed: f64,
+    feed: Feed,
     temps: &mut [f64; MAX_LAYERS],
     held: &mut [f64; MAX_LAYERS],
 ) -> bool

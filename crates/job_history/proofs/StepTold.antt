@@ -22,7 +22,7 @@ use Rattle.tank_model.specs.Fixed.{Fixed, placedHeaters}
 use Rattle.tank_model.specs.Order.{workingOrder}
 use Rattle.tank_model.specs.Checks.{stepRefusal}
 use Rattle.tank_model.specs.Members.{All}
-use Rattle.tank_model.specs.Work.{Progress, Turn, End, refused, done, resume, andThen, endBy, withDraw, events, wantedVolumes, withAverage, turnOf, afterTurn, heaterTurn, turns, allTurns, opening, begin, work}
+use Rattle.tank_model.specs.Work.{Progress, Turn, End, refused, done, resume, andThen, endBy, withDraw, events, feedIn, wantedVolumes, withAverage, turnOf, afterTurn, heaterTurn, turns, allTurns, opening, begin, work}
 use Rattle.tank_model.proofs.Order.{many-placed, placed-at, order-below}
 use Rattle.tank_arrays.proofs.FirstRefusal.{step-counts}
 use Rattle.step_work.specs.Lent.{noTotals}
@@ -34,16 +34,16 @@ use Rattle.job_history.specs.Lent.{turnFacts}
 
 -- ---- the turns of heaters given as hs
 
-module _ (c : Cylinder) (n : ℕ) (fitted : List Heater) (a : Step) where
+module _ (c : Cylinder) (vol : List Float) (n : ℕ) (fitted : List Heater) (a : Step) where
   abbrev fixed : Fixed
-  fixed = record { cylinder = c; heaters = placedHeaters n fitted }
+  fixed = record { cylinder = c; vol = vol; heaters = placedHeaters n fitted }
 
   resumed : (hs : List ℕ) (m : ℕ) (u : Turn) (s : Progress) (rest : List TurnFact) → factsOf (turns fixed a hs s .turns) ≡ rest → factsOf (resume [] (u ∷ []) (endBy m s) (λ z. turns fixed a hs z) .turns) ≡ factOf u ∷ cond (eqb m 0) rest []
   unfolding resume endBy factsOf
   resumed hs zero u s rest e = ap (λ (xs : List TurnFact). factOf u ∷ xs) e
   resumed hs (suc m) u s rest e = rw (ne-eqb (suc m) 0 (λ q. omega arith))
 
-  facts-are : (hs : List ℕ) (s : Progress) → All (λ (h : ℕ). h < n) hs → factsOf (turns fixed a hs s .turns) ≡ turnFacts c fitted (a .settings) hs (s .temps) (s .charged) (s .flags)
+  facts-are : (hs : List ℕ) (s : Progress) → All (λ (h : ℕ). h < n) hs → factsOf (turns fixed a hs s .turns) ≡ turnFacts c vol fitted (a .settings) hs (s .temps) (s .charged) (s .flags)
   unfolding turns andThen heaterTurn factsOf turnFacts
   facts-are [] s b = refl
   facts-are (h ∷ hs) s b =
@@ -69,7 +69,7 @@ module _ (t : StorageTank) (a : Step) where
       go zero n = absurd (n refl)
       go (suc k) n = unfold begin factsOf in refl
 
-  module _ (passed : stepRefusal (fixedIn t) (stateIn t) a ≡ 0) (first : List Float) (d : EventAnswer) (drawn : drawingOf first d ≡ drawAll c (a .feed) (wantedVolumes a) 0 (t .temps) noTotals .end) where
+  module _ (passed : stepRefusal (fixedIn t) (stateIn t) a ≡ 0) (first : List Float) (d : EventAnswer) (drawn : drawingOf first d ≡ drawAll c (fixedIn t .vol) (feedIn a) (wantedVolumes a) 0 (t .temps) noTotals .end) where
     -- what the events leave to the turns
     abbrev after : End → List TurnFact
     after e = factsOf (resume [] [] e (λ s. allTurns (fixedIn t) a s) .turns)
@@ -78,7 +78,7 @@ module _ (t : StorageTank) (a : Step) where
     unfolding stepTurns work begin andThen events
     from-events =
         rw passed
-        (go _ [] (events c (a .feed) (wantedVolumes a) (opening (stateIn t)) .end) refl
+        (go _ [] (events (fixedIn t) (feedIn a) (wantedVolumes a) (opening (stateIn t)) .end) refl
         ∙ ap after (ap (λ (x : Drawing). endBy (x .number) (withDraw (x .temps) (x .totals) (opening (stateIn t)))) (unfold opening in (sym drawn))))
       where
         go : (es : List Event) (us : List Turn) (e : End) → us ≡ [] → factsOf (resume es us e (λ s. allTurns (fixedIn t) a s) .turns) ≡ after e
@@ -92,8 +92,8 @@ module _ (t : StorageTank) (a : Step) where
         go zero n s = absurd (n refl)
         go (suc k) n s = unfold endBy resume factsOf in refl
 
-    pub told-all : d .number ≡ 0 → stepTurns t a ≡ turnFacts c (t .fitted) (a .settings) (workingOrder (fixedIn t)) first (replicate maxLayers zero-f) (t .flags)
+    pub told-all : d .number ≡ 0 → stepTurns t a ≡ turnFacts c (fixedIn t .vol) (t .fitted) (a .settings) (workingOrder (fixedIn t)) first (replicate maxLayers zero-f) (t .flags)
     unfolding resume endBy
     told-all z =
         from-events
-        ∙ rw z (unfold withAverage opening in (facts-are c (t .heaters) (t .fitted) a (workingOrder (fixedIn t)) (withAverage c (withDraw first (d .totals) (opening (stateIn t)))) (rw (many-placed (t .heaters) (t .fitted)) at (order-below (fixedIn t)))))
+        ∙ rw z (unfold withAverage opening in (facts-are c (fixedIn t .vol) (t .heaters) (t .fitted) a (workingOrder (fixedIn t)) (withAverage c (withDraw first (d .totals) (opening (stateIn t)))) (rw (many-placed (t .heaters) (t .fitted)) at (order-below (fixedIn t)))))

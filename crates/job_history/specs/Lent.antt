@@ -7,7 +7,6 @@ use lib.Dec.{eqb}
 use lib.ListN.{getD, set}
 use lib.Ieee.{Float, nan}
 use Rattle.cylinder.specs.declared.Cylinder.{Cylinder}
-use Rattle.cylinder.specs.Layers.{layerVolumes}
 use Rattle.heating.specs.declared.SetPoints.{SetPoints}
 use Rattle.heating.specs.Turn.{Turned, turn, turnNumber}
 use Rattle.tank_model.specs.declared.Heater.{Heater}
@@ -37,7 +36,7 @@ pub record Told (c : Cylinder) (h : ℕ) (p : SetPoints) (thermostat : ℕ) (bef
   pub leaves : temps ≡ u .temps
   pub charges : charged ≡ u .charged
 
-module _ (c : Cylinder) (fitted : List Heater) (settings : List Setting) where
+module _ (c : Cylinder) (vol : List Float) (fitted : List Heater) (settings : List Setting) where
   -- the heater given as h, and its turn
   abbrev pub thermostatAt : ℕ → ℕ
   thermostatAt h = immersion (c .layers) (getD fitted h noHeater) .thermostat
@@ -46,7 +45,7 @@ module _ (c : Cylinder) (fitted : List Heater) (settings : List Setting) where
   pointsAt h = getD settings h noSetting .points
 
   abbrev pub turnAt : ℕ → List Float → List Float → List Bool → Turned
-  turnAt h temps charged flags = turn c (layerVolumes c) (immersion (c .layers) (getD fitted h noHeater)) (pointsAt h) temps charged (getD flags h false)
+  turnAt h temps charged flags = turn c vol (immersion (c .layers) (getD fitted h noHeater)) (pointsAt h) temps charged (getD flags h false)
 
   -- the turns of the heaters hs, each from where the one before left
   unfoldable pub turnFacts : List ℕ → List Float → List Float → List Bool → List TurnFact

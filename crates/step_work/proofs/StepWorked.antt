@@ -19,7 +19,7 @@ use Rattle.tank_model.specs.declared.Step.{Step}
 use Rattle.tank_model.specs.Fixed.{Fixed, State}
 use Rattle.tank_model.specs.Order.{workingOrder}
 use Rattle.tank_model.specs.Checks.{stepRefusal}
-use Rattle.tank_model.specs.Work.{Progress, Turn, End, refused, done, resume, andThen, endBy, withDraw, events, wantedVolumes, averageOf, withAverage, turnOf, heaterTurn, turns, allTurns, opening, recoverable, closed, begin, work}
+use Rattle.tank_model.specs.Work.{Progress, Turn, End, refused, done, resume, andThen, endBy, withDraw, events, feedIn, wantedVolumes, averageOf, withAverage, turnOf, heaterTurn, turns, allTurns, opening, recoverable, closed, begin, work}
 use Rattle.tank_arrays.specs.Arrays.{ZeroLines}
 use Rattle.tank_arrays.proofs.LentArrays.{zero-lines}
 use Rattle.step_work.specs.declared.work.WorkAnswer.{WorkAnswer}
@@ -79,12 +79,12 @@ module _ (f : Fixed) (st : State) (a : Step) where
     end-only es us (done s) = refl
 
     -- `first` are the layers that the events leave, d what they answer
-    module _ (first : List Float) (d : EventAnswer) (drawn : drawingOf first d ≡ drawAll c (a .feed) (wantedVolumes a) 0 (st .temps) noTotals .end) where
+    module _ (first : List Float) (d : EventAnswer) (drawn : drawingOf first d ≡ drawAll c (f .vol) (feedIn a) (wantedVolumes a) 0 (st .temps) noTotals .end) where
       end-is : work f st a .end ≡ after (drawnEnd (drawingOf first d) (opening st))
       unfolding work begin andThen events
       end-is =
           rw passed
-          (end-only _ _ (events c (a .feed) (wantedVolumes a) (opening st) .end)
+          (end-only _ _ (events f (feedIn a) (wantedVolumes a) (opening st) .end)
           ∙ ap after (ap (λ (x : Drawing). drawnEnd x (opening st)) (unfold opening in (sym drawn))))
 
       pub drawn-refused : (d .number ≡ 0 → ⊥) → work f st a .end ≡ refused (d .number)

@@ -11,7 +11,6 @@ use lib.Ieee.{Float, nan}
 use Rattle.numeric.specs.Tabulate.{tabulate, at-tabulate}
 use Rattle.numeric.specs.Whole.{layerOf}
 use Rattle.cylinder.specs.declared.Cylinder.{Cylinder}
-use Rattle.cylinder.specs.Layers.{layerVolumes}
 use Rattle.draw_off.specs.declared.Totals.{Totals}
 use Rattle.draw_off.specs.Event.{Event}
 use Rattle.heating.specs.Turn.{Turned, turn, turnNumber}
@@ -19,7 +18,7 @@ use Rattle.working_order.specs.Order.{maxHeaters, risingOrder}
 use Rattle.working_order.proofs.Same.{rising-same}
 use Rattle.tank_model.specs.declared.Heater.{Heater}
 use Rattle.tank_model.specs.declared.Setting.{Setting}
-use Rattle.tank_model.specs.Fixed.{Placed, Fixed, noHeater, placedHeaters}
+use Rattle.tank_model.specs.Fixed.{Placed, Fixed, noHeater, placedHeaters, fixedBy}
 use Rattle.tank_model.specs.Order.{positions, workingOrder}
 use Rattle.tank_model.specs.Checks.{noSetting}
 use Rattle.tank_model.specs.Work.{Progress, Turn, End, refused, done, Work, resume, andThen, endBy, turnOf, afterTurn, heaterTurn, turns}
@@ -41,13 +40,13 @@ resume-off es us (suc n) s f e = refl
 pub slice-past : (k n : ℕ) (xs : List ℕ) → n ≤ k → slice k n xs ≡ []
 slice-past k n xs l = let m : length (take n xs) ≤ k = simp length-take (omega arith) in drop-of-length-le (take n xs) m
 
-module _ (c : Cylinder) (n : ℕ) (fitted : List Heater) (settings : List Setting) where
+module _ (c : Cylinder) (vol : List Float) (n : ℕ) (fitted : List Heater) (settings : List Setting) where
   abbrev fixed : Fixed
-  fixed = record { cylinder = c; heaters = placedHeaters n fitted }
+  fixed = record { cylinder = c; vol = vol; heaters = placedHeaters n fitted }
 
   -- the turn of the heater given as h, by the arrays
   abbrev turnAt : ℕ → List Float → List Float → Heated → Turned
-  turnAt h temps charged s = turn c (layerVolumes c) (immersion (c .layers) (getD fitted h noHeater)) (getD settings h noSetting .points) temps charged (getD (s .flags) h false)
+  turnAt h temps charged s = turn c vol (immersion (c .layers) (getD fitted h noHeater)) (getD settings h noSetting .points) temps charged (getD (s .flags) h false)
 
   module _ (t : Totals) (average : Float) where
     abbrev leftBy : ℕ → Heated → Turned → Progress
@@ -56,7 +55,7 @@ module _ (c : Cylinder) (n : ℕ) (fitted : List Heater) (settings : List Settin
     turned-is : (h : ℕ) (temps charged : List Float) (s : Heated) → h < n → turnOf fixed (settingsOnly settings) h (progressOf t average temps charged s) .turned ≡ turnAt h temps charged s
     unfolding turnOf
     turned-is h temps charged s l =
-        ap (λ (y : Placed). turn c (layerVolumes c) (record { rated = y .rated; layer = layerOf (y .position) (c .layers); thermostat = layerOf (y .thermostat) (c .layers) }) (getD settings h noSetting .points) temps charged (getD (s .flags) h false))
+        ap (λ (y : Placed). turn c vol (record { rated = y .rated; layer = layerOf (y .position) (c .layers); thermostat = layerOf (y .thermostat) (c .layers) }) (getD settings h noSetting .points) temps charged (getD (s .flags) h false))
         (placed-at n fitted h l)
 
     left-is : (h : ℕ) (temps charged : List Float) (s : Heated) → afterTurn (turnOf fixed (settingsOnly settings) h (progressOf t average temps charged s)) (progressOf t average temps charged s) ≡ leftBy h s (turnOf fixed (settingsOnly settings) h (progressOf t average temps charged s) .turned)
@@ -129,12 +128,12 @@ module _ (c : Cylinder) (n : ℕ) (fitted : List Heater) (settings : List Settin
 
 -- ---- the order of work, by the array of positions
 
-pub order-is : (c : Cylinder) (n : ℕ) (fitted : List Heater) → n < suc maxHeaters → workingOrder (record { cylinder = c; heaters = placedHeaters n fitted }) ≡ risingOrder (tabulate (λ (h : ℕ). getD fitted h noHeater .position) maxHeaters 0) n
+pub order-is : (c : Cylinder) (n : ℕ) (fitted : List Heater) → n < suc maxHeaters → workingOrder (fixedBy c (placedHeaters n fitted)) ≡ risingOrder (tabulate (λ (h : ℕ). getD fitted h noHeater .position) maxHeaters 0) n
 unfolding workingOrder
 order-is c n fitted l = rw (many-placed n fitted) (rising-same (positions f) lent n same)
   where
     f : Fixed
-    f = record { cylinder = c; heaters = placedHeaters n fitted }
+    f = fixedBy c (placedHeaters n fitted)
 
     lent : List Float
     lent = tabulate (λ (h : ℕ). getD fitted h noHeater .position) maxHeaters 0

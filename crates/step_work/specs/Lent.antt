@@ -77,10 +77,11 @@ progressOf t average temps charged s = record {
 }
 
 -- the turns of the heaters hs are worked from the layers, the charged losses and s, whatever was drawn: what is answered, and what the lent arrays hold
-abbrev pub TurnsWorked : Cylinder → ℕ → List Heater → List Setting → List ℕ → List Float → List Float → Heated → Heated → List Float → List Float → Type 0
-TurnsWorked c n fitted settings hs temps charged s r temps' charged' =
+abbrev pub TurnsWorked : Cylinder → List Float → ℕ → List Heater → List Setting → List ℕ
+    → List Float → List Float → Heated → Heated → List Float → List Float → Type 0
+TurnsWorked c vol n fitted settings hs temps charged s r temps' charged' =
     (t : Totals) (average : Float)
-    → turns (record { cylinder = c; heaters = placedHeaters n fitted }) (settingsOnly settings) hs (progressOf t average temps charged s) .end
+    → turns (record { cylinder = c; vol = vol; heaters = placedHeaters n fitted }) (settingsOnly settings) hs (progressOf t average temps charged s) .end
     ≡ endBy (r .number) (progressOf t average temps' charged' r)
 
 -- before the first event

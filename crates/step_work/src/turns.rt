@@ -6,7 +6,6 @@ ghost use Prim.Native.Nat.{ℕ, _≤_, _<_};
 ghost use lib.ListN.{getD, length, take};
 ghost use Rattle.numeric.specs.Tabulate.{tabulate};
 ghost use Rattle.mixing.specs.Limits.{maxLayers};
-ghost use Rattle.cylinder.specs.Layers.{layerVolumes};
 ghost use Rattle.heating.specs.Turn.{turn};
 ghost use Rattle.working_order.specs.Order.{maxHeaters};
 ghost use Rattle.tank_model.specs.Fixed.{noHeater};
@@ -146,8 +145,8 @@ fn heat_in_order(
     flags: &mut [bool; MAX_HEATERS],
     rounds: &mut [usize; MAX_HEATERS],
 ) -> TurnsAnswer
-    requires { ⌜ (1 ≤ c .layers) × (c .layers ≤ maxLayers) × (n ≤ maxHeaters) × (now vol ≡ layerVolumes c) × (length (now order) ≡ maxHeaters) × ((k : ℕ) → k < n → getD (now order) k 0 < n) × HoldsLines (now figures) (now flags) (now rounds) ⌝ }
-    ensures { λ r. ⌜ TurnsWorked c n (fittedIn (now (heaters .entry)) (now (thermostats .entry))) (settingsIn (now (present .entry)) (now (points .entry))) (take n (now (order .entry))) (now (temps .entry)) (now (charged .entry)) (heatedIn noTurns (now (on .entry)) (now (figures .entry)) (now (flags .entry)) (now (rounds .entry))) (heatedIn r (now (on .exit)) (now (figures .exit)) (now (flags .exit)) (now (rounds .exit))) (now (temps .exit)) (now (charged .exit)) × HoldsLines (now (figures .exit)) (now (flags .exit)) (now (rounds .exit)) ⌝ }
+    requires { ⌜ (1 ≤ c .layers) × (c .layers ≤ maxLayers) × (n ≤ maxHeaters) × (length (now order) ≡ maxHeaters) × ((k : ℕ) → k < n → getD (now order) k 0 < n) × HoldsLines (now figures) (now flags) (now rounds) ⌝ }
+    ensures { λ r. ⌜ TurnsWorked c (now (vol .entry)) n (fittedIn (now (heaters .entry)) (now (thermostats .entry))) (settingsIn (now (present .entry)) (now (points .entry))) (take n (now (order .entry))) (now (temps .entry)) (now (charged .entry)) (heatedIn noTurns (now (on .entry)) (now (figures .entry)) (now (flags .entry)) (now (rounds .entry))) (heatedIn r (now (on .exit)) (now (figures .exit)) (now (flags .exit)) (now (rounds .exit))) (now (temps .exit)) (now (charged .exit)) × HoldsLines (now (figures .exit)) (now (flags .exit)) (now (rounds .exit)) ⌝ }
 {
     let mut s = no_turns();
     let mut k = 0;
@@ -193,8 +192,8 @@ pub fn heat_turns(
     flags: &mut [bool; MAX_HEATERS],
     rounds: &mut [usize; MAX_HEATERS],
 ) -> TurnsAnswer
-    requires { ⌜ (1 ≤ c .layers) × (c .layers ≤ maxLayers) × (n ≤ maxHeaters) × (now vol ≡ layerVolumes c) × HoldsLines (now figures) (now flags) (now rounds) ⌝ }
-    ensures { λ r. ⌜ TurnsWorked c n (fittedIn (now (heaters .entry)) (now (thermostats .entry))) (settingsIn (now (present .entry)) (now (points .entry))) (workingOrder (fixedWith c n (now (heaters .entry)) (now (thermostats .entry)))) (now (temps .entry)) (now (charged .entry)) (heatedIn noTurns (now (on .entry)) (now (figures .entry)) (now (flags .entry)) (now (rounds .entry))) (heatedIn r (now (on .exit)) (now (figures .exit)) (now (flags .exit)) (now (rounds .exit))) (now (temps .exit)) (now (charged .exit)) × HoldsLines (now (figures .exit)) (now (flags .exit)) (now (rounds .exit)) ⌝ }
+    requires { ⌜ (1 ≤ c .layers) × (c .layers ≤ maxLayers) × (n ≤ maxHeaters) × HoldsLines (now figures) (now flags) (now rounds) ⌝ }
+    ensures { λ r. ⌜ TurnsWorked c (now (vol .entry)) n (fittedIn (now (heaters .entry)) (now (thermostats .entry))) (settingsIn (now (present .entry)) (now (points .entry))) (workingOrder (fixedWith c n (now (heaters .entry)) (now (thermostats .entry)))) (now (temps .entry)) (now (charged .entry)) (heatedIn noTurns (now (on .entry)) (now (figures .entry)) (now (flags .entry)) (now (rounds .entry))) (heatedIn r (now (on .exit)) (now (figures .exit)) (now (flags .exit)) (now (rounds .exit))) (now (temps .exit)) (now (charged .exit)) × HoldsLines (now (figures .exit)) (now (flags .exit)) (now (rounds .exit)) ⌝ }
 {
     let positions = positions_in(heaters);
     let order = working_order::working_order(n, &positions);

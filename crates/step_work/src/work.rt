@@ -12,6 +12,7 @@ ghost use Rattle.tank_arrays.specs.Arrays.{linesIn, HoldsLines, ZeroLines, fixe
 ghost use Rattle.step_work.specs.Lent.{noTotals, StepWorked};
 use cylinder::Cylinder;
 use draw_off::Totals;
+use draw_off::cold::Feed;
 use draw_off::event::MAX_EVENTS;
 use mixing::limits::MAX_LAYERS;
 use tank_arrays::arrays::THREE_EACH;
@@ -109,7 +110,8 @@ pub fn work_step(
         return refused(k);
     }
     let vol = cylinder::layer_volumes(c);
-    let d = draw_off::event::draw_events(c, &vol, feed, events, volumes, temps, no_totals());
+    let water = Feed { temperature: feed };
+    let d = draw_off::event::draw_events(c, &vol, water, events, volumes, temps, no_totals());
     if d.number != 0 {
         return refused(d.number);
     }

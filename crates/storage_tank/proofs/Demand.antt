@@ -16,7 +16,7 @@ use Rattle.working_order.specs.Order.{maxHeaters}
 use Rattle.tank_model.specs.declared.Heater.{Heater}
 use Rattle.tank_model.specs.declared.HeaterLine.{HeaterLine}
 use Rattle.tank_model.specs.declared.TankDesign.{TankDesign}
-use Rattle.tank_model.specs.Fixed.{Placed, Fixed, State, placed, noHeater, placedHeaters, fixedOf}
+use Rattle.tank_model.specs.Fixed.{Placed, Fixed, State, placed, noHeater, placedHeaters, fixedBy, fixedOf}
 use Rattle.tank_model.specs.Checks.{firstRefusal, stepRefusal}
 use Rattle.tank_model.specs.Work.{Progress, Turn, End, refused, done, Work, zeroLine, recoverable, begin, work}
 use Rattle.tank_model.specs.History.{Call, step, designRefusal, start, carry, carried, workOf, run, history}
@@ -87,7 +87,7 @@ clean-placed x = go (x .«has_thermostat»)
 pub fixed-is : (m : TankDesign) (st : State) → m .heaters ≤ maxHeaters → fixedIn (tankOf m st) ≡ fixedOf m
 unfolding placedHeaters
 fixed-is m st l =
-    ap (λ (hs : List Placed). record { cylinder = fixedOf m .cylinder; heaters = hs })
+    ap (λ (hs : List Placed). fixedBy (fixedOf m .cylinder) hs)
     (tabulate-same (λ (h : ℕ). placed (getD (tankOf m st .fitted) h noHeater)) (λ (h : ℕ). placed (getD (m .fitted) h noHeater)) (m .heaters) 0
     (λ h l' k. ap placed (fitted-given (m .heaters) h (m .fitted) (omega arith) (omega arith)) ∙ clean-placed (getD (m .fitted) h noHeater)))
 

@@ -12,7 +12,6 @@ use lib.Ieee.{Float}
 use Rattle.numeric.specs.Double.{zero-f}
 use Rattle.numeric.specs.Places.{Keeps, keeps-self, keeps-trans}
 use Rattle.mixing.specs.Limits.{maxLayers}
-use Rattle.cylinder.specs.Layers.{layerVolumes}
 use Rattle.draw_off.specs.Event.{Event}
 use Rattle.draw_off.proofs.Keeps.{events-keep}
 use Rattle.heating.proofs.Keeps.{turn-keeps-temps}
@@ -22,7 +21,7 @@ use Rattle.tank_model.specs.declared.Step.{Step}
 use Rattle.tank_model.specs.Fixed.{Fixed, State, immersionOf}
 use Rattle.tank_model.specs.Order.{workingOrder}
 use Rattle.tank_model.specs.Checks.{pointsOf, stepRefusal}
-use Rattle.tank_model.specs.Work.{Progress, Turn, End, refused, done, Work, resume, andThen, endBy, events, wantedVolumes, withAverage, turnOf, zeroLine, afterTurn, heaterTurn, turns, opening, closed, begin, work}
+use Rattle.tank_model.specs.Work.{Progress, Turn, End, refused, done, Work, resume, andThen, endBy, events, feedIn, wantedVolumes, withAverage, turnOf, zeroLine, afterTurn, heaterTurn, turns, opening, closed, begin, work}
 use Rattle.tank_model.specs.History.{Call, step, designRefusal}
 use Rattle.tank_model.specs.Members.{All}
 use Rattle.tank_model.proofs.Order.{many-placed, order-below}
@@ -66,7 +65,7 @@ module _ (f : Fixed) (a : Step) (st : State) where
   turn-left : (h : ℕ) (s : Progress) → h < length (f .heaters) → Kept s → Kept (afterTurn (turnOf f a h s) s)
   unfolding afterTurn turnOf
   turn-left h s l k = record {
-    temps = keeps-trans (f .cylinder .layers) (st .temps) (s .temps) _ (k .temps) (turn-keeps-temps (f .cylinder) (layerVolumes (f .cylinder)) (immersionOf f h) (pointsOf a h) (s .temps) (s .charged) (getD (s .flags) h false));
+    temps = keeps-trans (f .cylinder .layers) (st .temps) (s .temps) _ (k .temps) (turn-keeps-temps (f .cylinder) (f .vol) (immersionOf f h) (pointsOf a h) (s .temps) (s .charged) (getD (s .flags) h false));
     flags = length-set (s .flags) h _ ∙ k .flags;
     lines = λ j m. getD-set-other (s .lines) h j _ zeroLine (λ e. omega arith) ∙ k .lines j m;
   }
@@ -80,9 +79,9 @@ module _ (f : Fixed) (a : Step) (st : State) where
   unfolding withAverage
   average-left s k = record { temps = k .temps; flags = k .flags; lines = k .lines }
 
-  events-left : Left Kept (events (f .cylinder) (a .feed) (wantedVolumes a) (opening st) .end)
+  events-left : Left Kept (events f (feedIn a) (wantedVolumes a) (opening st) .end)
   unfolding events opening
-  events-left = left-by Kept _ _ (record { temps = events-keep (f .cylinder) (a .feed) (wantedVolumes a) 0 (st .temps) _; flags = refl; lines = λ h l. zero-lines maxHeaters h })
+  events-left = left-by Kept _ _ (record { temps = events-keep (f .cylinder) (f .vol) (feedIn a) (wantedVolumes a) 0 (st .temps) _; flags = refl; lines = λ h l. zero-lines maxHeaters h })
 
   closed-left : (e : End) → Left Kept e → Left Kept (closed e)
   unfolding closed
@@ -126,7 +125,7 @@ refused-above : (f : Fixed) (a : Step) (st : State) → Above (work f st a .end)
 unfolding work
 refused-above f a st = go (stepRefusal f st a)
   where
-    events-above : Above (events (f .cylinder) (a .feed) (wantedVolumes a) (opening st) .end)
+    events-above : Above (events f (feedIn a) (wantedVolumes a) (opening st) .end)
     events-above = unfold events in (above-by _ _)
 
     go : (n : ℕ) → Above (begin f st a n .end)

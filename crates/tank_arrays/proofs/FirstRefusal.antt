@@ -17,7 +17,7 @@ use Rattle.working_order.specs.Order.{maxHeaters}
 use Rattle.tank_model.specs.declared.Heater.{Heater}
 use Rattle.tank_model.specs.declared.TankDesign.{TankDesign}
 use Rattle.tank_model.specs.declared.Step.{Step}
-use Rattle.tank_model.specs.Fixed.{placed, noHeater, notPlaced, placedHeaters, Fixed, State, fixedOf}
+use Rattle.tank_model.specs.Fixed.{placed, noHeater, notPlaced, placedHeaters, Fixed, State, fixedBy, fixedOf}
 use Rattle.tank_model.specs.Checks.{unless, firstRefusal, fairHeater, layersCheck, numbersCheck, temperaturesCheck, tankChecks, stepChecks, feedCheck, pointsCheck, makeRefusal, stepRefusal}
 use Rattle.tank_model.proofs.Order.{many-placed, placed-at}
 use Rattle.tank_model.proofs.Works.{unless-passes}
@@ -58,7 +58,7 @@ firstChecks c n = layersCheck c ∷ unless (leb n maxHeaters) 2 ∷ numbersCheck
 abbrev pub lastChecks : Cylinder → ℕ → List Heater → Bool → List ℕ
 lastChecks c n fitted temps = temperaturesCheck c temps ∷ unless (holds (fairAt fitted) n 0) 5 ∷ []
 
-pub checks-of : (c : Cylinder) (n : ℕ) (fitted : List Heater) (temps : Bool) → tankChecks (record { cylinder = c; heaters = placedHeaters n fitted }) temps ≡ firstChecks c n ++ lastChecks c n fitted temps
+pub checks-of : (c : Cylinder) (n : ℕ) (fitted : List Heater) (temps : Bool) → tankChecks (fixedBy c (placedHeaters n fitted)) temps ≡ firstChecks c n ++ lastChecks c n fitted temps
 checks-of c n fitted temps =
     rw (
       many-placed n fitted,
@@ -93,7 +93,7 @@ module _ (m : TankDesign) where
 
 module _ (c : Cylinder) (n : ℕ) (fitted : List Heater) (st : State) (a : Step) where
   abbrev fixed : Fixed
-  fixed = record { cylinder = c; heaters = placedHeaters n fitted }
+  fixed = fixedBy c (placedHeaters n fitted)
 
   abbrev pub stepLast : List ℕ
   stepLast = unless (leb (a .events) maxEvents && eqb (a .entries) n) 6 ∷ feedCheck a ∷ pointsCheck a ∷ []

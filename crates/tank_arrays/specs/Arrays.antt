@@ -17,7 +17,7 @@ use Rattle.tank_model.specs.declared.Heater.{Heater}
 use Rattle.tank_model.specs.declared.HeaterLine.{HeaterLine}
 use Rattle.tank_model.specs.declared.Setting.{Setting}
 use Rattle.tank_model.specs.declared.Step.{Step}
-use Rattle.tank_model.specs.Fixed.{noHeater, Fixed, placedHeaters}
+use Rattle.tank_model.specs.Fixed.{noHeater, Fixed, placedHeaters, fixedBy}
 use Rattle.tank_model.specs.Checks.{noSetting}
 
 -- ---- heaters: rated powers, then positions, then thermostat positions; and whether a thermostat has a position of its own
@@ -97,7 +97,7 @@ pub record ZeroLines (figures : List Float) (flags : List Bool) (rounds : List �
 -- ---- what is fixed, and a step, from their numbers and arrays
 
 abbrev pub fixedWith : Cylinder → ℕ → List Float → List Bool → Fixed
-fixedWith c n heaters thermostats = record { cylinder = c; heaters = placedHeaters n (fittedIn heaters thermostats) }
+fixedWith c n heaters thermostats = fixedBy c (placedHeaters n (fittedIn heaters thermostats))
 
 abbrev pub stepWith : Float → ℕ → List Float → ℕ → List Bool → List Float → Step
 stepWith feed events volumes entries present points = record {

@@ -21,7 +21,7 @@ use Rattle.tank_model.specs.Order.{workingOrder}
 use Rattle.tank_model.specs.Checks.{stepChecks, stepRefusal}
 use Rattle.tank_model.specs.Work.{Progress, Turn, End, refused, done, Work, resume, andThen, endBy, withDraw, events, wantedVolumes, withAverage, turnOf, afterTurn, heaterTurn, turns, allTurns, opening, closed, closing, begin, work}
 use Rattle.tank_model.specs.Members.{All, Distinct}
-use Rattle.tank_model.specs.Arguments.{cylinderOf, volumesOf}
+use Rattle.tank_model.specs.Arguments.{cylinderOf, volumesOf, feedOf}
 use Rattle.tank_model.specs.Course.{MixingOf, EventOf, EventDraws, EventPart, TurnDraws, TurnPart, InSequence, Averages, Closes, Turns, EventsThenTurns, Course}
 use Rattle.tank_model.proofs.Members.{all-map, all-both}
 use Rattle.tank_model.proofs.Order.{heaters-many, order-below, order-once}
@@ -66,42 +66,42 @@ no-events es us (done s) f u k = rw u (k s)
 module _ (m : TankDesign) (a : Step) where
   -- ---- the events
 
-  mixing-mixed : (b : Bool) (temps : List Float) → T b → (x : Mixing) × (eventMixing b (cylinderOf m) temps ≡ mixed x) × MixingOf (m .layers) (volumesOf m) temps x
+  mixing-mixed : (b : Bool) (temps : List Float) → T b → (x : Mixing) × (eventMixing b (m .layers) (fixedOf m .vol) temps ≡ mixed x) × MixingOf (m .layers) (volumesOf m) temps x
   unfolding eventMixing layerVolumes layerVolume
   mixing-mixed true temps t = (rearrange (m .layers) (volumesOf m) temps, refl, mixing-of (m .layers) (volumesOf m) temps)
   mixing-mixed false temps t = absurd t
 
-  mixing-unmixed : (b : Bool) (temps : List Float) → ¬ (T b) → eventMixing b (cylinderOf m) temps ≡ unmixed
+  mixing-unmixed : (b : Bool) (temps : List Float) → ¬ (T b) → eventMixing b (m .layers) (fixedOf m .vol) temps ≡ unmixed
   unfolding eventMixing
   mixing-unmixed true temps n = absurd (n tt)
   mixing-unmixed false temps n = refl
 
-  event-of : (v : Float) (s : Progress) → EventOf m (a .feed) v s (eventOf (cylinderOf m) (a .feed) v (s .temps) (s .totals))
+  event-of : (v : Float) (s : Progress) → EventOf m (feedOf a) v s (eventOf (cylinderOf m) (fixedOf m .vol) (feedOf a) v (s .temps) (s .totals))
   unfolding eventOf layerVolumes layerVolume
   event-of v s = record { wanted = refl; before = refl; draw = refl; refill = refl; mixing = mixing-mixed _ _; no-mixing = mixing-unmixed _ _ }
 
   -- where the events of the volumes vs, from s, come to when those before them drew n
   abbrev endFrom : List Float → ℕ → Progress → End
-  endFrom vs n s = let d = drawAll (cylinderOf m) (a .feed) vs n (s .temps) (s .totals) in endBy (d .end .number) (withDraw (d .end .temps) (d .end .totals) s)
+  endFrom vs n s = let d = drawAll (cylinderOf m) (fixedOf m .vol) (feedOf a) vs n (s .temps) (s .totals) in endBy (d .end .number) (withDraw (d .end .temps) (d .end .totals) s)
 
-  stopped : (vs : List Float) (n : ℕ) (s : Progress) → (drawAll (cylinderOf m) (a .feed) vs (suc n) (s .temps) (s .totals) .events ≡ []) × (endFrom vs (suc n) s ≡ refused (suc n))
+  stopped : (vs : List Float) (n : ℕ) (s : Progress) → (drawAll (cylinderOf m) (fixedOf m .vol) (feedOf a) vs (suc n) (s .temps) (s .totals) .events ≡ []) × (endFrom vs (suc n) s ≡ refused (suc n))
   unfolding drawAll endBy
   stopped [] n s = (refl, refl)
   stopped (v ∷ vs) n s = (refl, refl)
 
-  events-ran : (vs : List Float) (s : Progress) → RanTo (EventPart m a) (EventDraws m) s vs (drawAll (cylinderOf m) (a .feed) vs 0 (s .temps) (s .totals) .events) (endFrom vs 0 s)
+  events-ran : (vs : List Float) (s : Progress) → RanTo (EventPart m a) (EventDraws m) s vs (drawAll (cylinderOf m) (fixedOf m .vol) (feedOf a) vs 0 (s .temps) (s .totals) .events) (endFrom vs 0 s)
   unfolding drawAll
   events-ran [] s = unfold endBy in refl
   events-ran (v ∷ vs) s = (afterEvent m e s, (event-of v s, event-leaves m e s), go _ (event-draws m e s) (events-ran vs (afterEvent m e s)))
     where
       e : Event
-      e = eventOf (cylinderOf m) (a .feed) v (s .temps) (s .totals)
+      e = eventOf (cylinderOf m) (fixedOf m .vol) (feedOf a) v (s .temps) (s .totals)
 
       s' : Progress
       s' = afterEvent m e s
 
       events-of : ℕ → List Event
-      events-of n = drawAll (cylinderOf m) (a .feed) vs n (s' .temps) (s' .totals) .events
+      events-of n = drawAll (cylinderOf m) (fixedOf m .vol) (feedOf a) vs n (s' .temps) (s' .totals) .events
 
       go : (n : ℕ) → EventDraws m e s' n → RanTo (EventPart m a) (EventDraws m) s' vs (events-of 0) (endFrom vs 0 s')
           → (EventDraws m e s' 0 × RanTo (EventPart m a) (EventDraws m) s' vs (events-of n) (endFrom vs n s'))

@@ -21,7 +21,7 @@ use Rattle.tank_model.specs.declared.Step.{Step}
 use Rattle.tank_model.specs.Fixed.{State, fixedOf}
 use Rattle.tank_model.specs.Order.{workingOrder}
 use Rattle.tank_model.specs.Work.{Progress, Turn, End, refused, Work}
-use Rattle.tank_model.specs.Arguments.{eventVolume, volumesOf}
+use Rattle.tank_model.specs.Arguments.{feedOf, eventVolume, volumesOf}
 use Rattle.tank_model.specs.Refusals.{NotFinite, LayerNotFinite, tankSentences, stepSentences, StepRefusal}
 use Rattle.tank_model.specs.Course.{passed, EventOf, EventLeaves, EventNotFinite, EventDraws, EventPart, inputOf, FiguresOf, AfterMixing, TurnOf, LineTells, TurnLeaves, TurnNotFinite, TurnDraws, TurnPart, InSequence, Opens, Averages, Closes, Turns, EventsThenTurns, Course}
 use Rattle.tank_model.proofs.Sentences.{same-test}
@@ -108,7 +108,7 @@ record Like (s t : Progress) : Type 0 where
   lines : s .lines ≡ t .lines
 
 module _ (m : TankDesign) (a : Step) where
-  event-same : (v : Float) (s t : Progress) (d e : Event) → Like s t → EventOf m (a .feed) v s d → EventOf m (a .feed) v t e → d ≡ e
+  event-same : (v : Float) (s t : Progress) (d e : Event) → Like s t → EventOf m (feedOf a) v s d → EventOf m (feedOf a) v t e → d ≡ e
   event-same v s t d e l p q = event-eq d e (p .wanted ∙ sym (q .wanted)) (p .before ∙ l .temps ∙ sym (q .before)) draw-same refill-same (go (e .refill .mixes) refl)
     where
       draw-same : d .draw ≡ e .draw

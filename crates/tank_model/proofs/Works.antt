@@ -23,7 +23,7 @@ use Rattle.tank_model.specs.declared.Step.{Step}
 use Rattle.tank_model.specs.Fixed.{Placed, Fixed, State, heaterOf, fixedOf}
 use Rattle.tank_model.specs.Order.{workingOrder}
 use Rattle.tank_model.specs.Checks.{firstRefusal, unless, isPositive, notNegative, isPosition, fairHeater, tankChecks, stepChecks, makeRefusal, stepRefusal}
-use Rattle.tank_model.specs.Work.{Progress, Turn, refused, Work, andThen, endBy, events, wantedVolumes, withAverage, heaterTurn, turns, allTurns, opening, begin, work}
+use Rattle.tank_model.specs.Work.{Progress, Turn, refused, Work, andThen, endBy, events, feedIn, wantedVolumes, withAverage, heaterTurn, turns, allTurns, opening, begin, work}
 use Rattle.tank_model.specs.Members.{All, Distinct}
 use Rattle.tank_model.specs.Arguments.{cylinderOf}
 use Rattle.tank_model.specs.HistoryDemand.{EventOrderedOrNine}
@@ -84,14 +84,14 @@ module _ (m : TankDesign) (a : Step) where
   EventSorted unmixed = Unit {0}
   EventSorted (mixed x) = Sorted (m .layers) x
 
-  event-sorted : (b : Bool) (temps : List Float) → EventSorted (eventMixing b (cylinderOf m) temps)
+  event-sorted : (b : Bool) (temps : List Float) → EventSorted (eventMixing b (m .layers) (fixedOf m .vol) temps)
   unfolding eventMixing
   event-sorted false temps = tt
   event-sorted true temps = rearrange-sorted (m .layers) _ temps
 
   -- the events of the volumes vs, where those before came to s and the last of them drew n
   events-hand : (vs : List Float) (n : ℕ) (temps : List Float) (t : Totals) (s : Progress)
-      → let d = drawAll (cylinderOf m) (a .feed) vs n temps t in
+      → let d = drawAll (cylinderOf m) (fixedOf m .vol) (feedIn a) vs n temps t in
       All (λ (e : Event). EventOrderedOrNine (m .layers) (endBy (d .end .number) s) (e .mixing)) (d .events)
   unfolding drawAll
   events-hand [] n temps t s = tt
@@ -102,12 +102,12 @@ module _ (m : TankDesign) (a : Step) where
   )
     where
       e : Event
-      e = eventOf (cylinderOf m) (a .feed) v temps t
+      e = eventOf (cylinderOf m) (fixedOf m .vol) (feedIn a) v temps t
 
       rest : ℕ → Drawings
-      rest k = drawAll (cylinderOf m) (a .feed) vs k (tempsAfterEvent e) (totalsAfterEvent (cylinderOf m) e t)
+      rest k = drawAll (cylinderOf m) (fixedOf m .vol) (feedIn a) vs k (tempsAfterEvent e) (totalsAfterEvent (cylinderOf m) e t)
 
-      nine : (xs : List Float) → endBy (drawAll (cylinderOf m) (a .feed) xs 9 (tempsAfterEvent e) (totalsAfterEvent (cylinderOf m) e t) .end .number) s ≡ refused 9
+      nine : (xs : List Float) → endBy (drawAll (cylinderOf m) (fixedOf m .vol) (feedIn a) xs 9 (tempsAfterEvent e) (totalsAfterEvent (cylinderOf m) e t) .end .number) s ≡ refused 9
       nine [] = unfold drawAll endBy in refl
       nine (x ∷ xs) = unfold drawAll endBy in refl
 
@@ -116,7 +116,7 @@ module _ (m : TankDesign) (a : Step) where
       go (mixed (sorted after j)) b k o q = o
       go (mixed unsorted) b k o q = rw q (nine vs)
 
-  events-meets : (vs : List Float) (s : Progress) → MeetsIn (Law [] s) (events (cylinderOf m) (a .feed) vs s)
+  events-meets : (vs : List Float) (s : Progress) → MeetsIn (Law [] s) (events (fixedOf m) (feedIn a) vs s)
   unfolding events
   events-meets vs s = (events-hand vs 0 (s .temps) (s .totals) _, tt, tt, end-reach (Law [] s []) _ _ (λ z. law-still s _ refl refl))
 
@@ -149,7 +149,7 @@ module _ (m : TankDesign) (a : Step) where
       law = Law (workingOrder (fixedOf m)) (opening st)
 
       drawn : Work
-      drawn = events (cylinderOf m) (a .feed) (wantedVolumes a) (opening st)
+      drawn = events (fixedOf m) (feedIn a) (wantedVolumes a) (opening st)
 
       -- the average changes neither flags nor lines
       average-still : (s : Progress) → Law [] s [] (withAverage (cylinderOf m) s)

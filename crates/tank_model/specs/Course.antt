@@ -15,6 +15,7 @@ use Rattle.numeric.specs.Close.{wideClose}
 use Rattle.numeric.specs.Tabulate.{tabulate}
 use Rattle.numeric.specs.Sum2.{sum2}
 use Rattle.mixing.specs.Rearrange.{Mixing, sorted, unsorted, afterRounds}
+use Rattle.draw_off.specs.declared.cold.Feed.{Feed}
 use Rattle.draw_off.specs.Draw.{extract, volumeUsed}
 use Rattle.draw_off.specs.Refill.{refill}
 use Rattle.draw_off.specs.Event.{Event, unmixed, mixed}
@@ -26,7 +27,7 @@ use Rattle.tank_model.specs.declared.HeaterLine.{HeaterLine}
 use Rattle.tank_model.specs.Fixed.{State, fixedOf}
 use Rattle.tank_model.specs.Order.{workingOrder}
 use Rattle.tank_model.specs.Work.{Progress, Turn, End, refused, done, Work}
-use Rattle.tank_model.specs.Arguments.{cylinderOf, volumesOf, heaterLayer, thermostatLayer, maxEnergy, setPointsOf, eventVolume}
+use Rattle.tank_model.specs.Arguments.{cylinderOf, volumesOf, heaterLayer, thermostatLayer, maxEnergy, feedOf, setPointsOf, eventVolume}
 use Rattle.tank_model.specs.Arguments.{HasUpper, AtOrUnderLower, UpperMissingOrReached}
 use Rattle.tank_model.specs.Refusals.{NotFinite, LayerNotFinite, FirstOf, StepRefusal}
 
@@ -65,7 +66,7 @@ passed unsorted = false
 -- ---- one event
 
 -- the event of the volume v in a step with this feed, which began where the work had come to s: if its refill says so it has its one mixing, else none
-pub record EventOf (m : TankDesign) (feed : Float) (v : Float) (s : Progress) (e : Event) : Type 0 where
+pub record EventOf (m : TankDesign) (feed : Feed) (v : Float) (s : Progress) (e : Event) : Type 0 where
   pub wanted : e .wanted ≡ v
   pub before : e .before ≡ s .temps
   pub draw : e .draw ≡ extract (cylinderOf m) (volumesOf m) feed (s .temps) v (s .totals .weighted) (s .totals .drawn)
@@ -219,7 +220,7 @@ Closes end s = (EndNotFinite s × (end ≡ refused 10)) ⊎ (¬ (EndNotFinite s)
 
 -- an event of the step, and a turn
 abbrev pub EventPart : TankDesign → Step → Float → Progress → Event → Progress → Type 0
-EventPart m a v s e s' = EventOf m (a .feed) v s e × EventLeaves m s e s'
+EventPart m a v s e s' = EventOf m (feedOf a) v s e × EventLeaves m s e s'
 
 abbrev pub TurnPart : TankDesign → Step → List Bool → ℕ → Progress → Turn → Progress → Type 0
 TurnPart m a fs h s u s' = TurnOf m a fs h s u × TurnLeaves s u s'

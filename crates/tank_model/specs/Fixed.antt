@@ -7,6 +7,7 @@ use lib.Ieee.{Float, nan}
 use Rattle.numeric.specs.Tabulate.{tabulate}
 use Rattle.numeric.specs.Whole.{layerOf}
 use Rattle.cylinder.specs.declared.Cylinder.{Cylinder}
+use Rattle.cylinder.specs.Layers.{layerVolumes}
 use Rattle.heating.specs.declared.turn.Immersion.{Immersion}
 use Rattle.tank_model.specs.declared.Heater.{Heater}
 use Rattle.tank_model.specs.declared.TankDesign.{TankDesign}
@@ -31,9 +32,10 @@ notPlaced = record { rated = nan; position = nan; thermostat = nan }
 unfoldable pub placedHeaters : ℕ → List Heater → List Placed
 placedHeaters n fitted = tabulate (λ (h : ℕ). placed (getD fitted h noHeater)) n 0
 
--- what make fixes
+-- what make fixes: the cylinder's numbers, each layer's volume from the bottom up, and the heaters
 pub record Fixed : Type 0 where
   pub cylinder : Cylinder
+  pub vol : List Float
   pub heaters : List Placed
 
 abbrev pub heaterOf : Fixed → ℕ → Placed
@@ -52,17 +54,21 @@ pub record State : Type 0 where
   pub temps : List Float
   pub flags : List Bool
 
+-- the layers' volumes are filled here, and nowhere else: today they are equal, layer volume = volume / layers
+abbrev pub fixedBy : Cylinder → List Placed → Fixed
+fixedBy c hs = record { cylinder = c; vol = layerVolumes c; heaters = hs }
+
 -- make's own numbers
 abbrev pub fixedOf : TankDesign → Fixed
-fixedOf m = record {
-  cylinder = record {
-    layers = m .layers;
-    volume = m .volume;
-    standby = m .standby;
-    rho = m .rho;
-    cp = m .cp;
-    ambient = m .ambient;
-    timestep = m .timestep;
-  };
-  heaters = placedHeaters (m .heaters) (m .fitted);
-}
+fixedOf m =
+    fixedBy
+    (record {
+      layers = m .layers;
+      volume = m .volume;
+      standby = m .standby;
+      rho = m .rho;
+      cp = m .cp;
+      ambient = m .ambient;
+      timestep = m .timestep;
+    })
+    (placedHeaters (m .heaters) (m .fitted))

@@ -11,8 +11,8 @@ use Rattle.numeric.specs.Close.{wideClose}
 use Rattle.numeric.specs.Tabulate.{tabulate}
 use Rattle.mixing.specs.Limits.{maxLayers}
 use Rattle.cylinder.specs.declared.Cylinder.{Cylinder}
-use Rattle.cylinder.specs.Layers.{layerVolumes}
 use Rattle.draw_off.specs.declared.Totals.{Totals}
+use Rattle.draw_off.specs.declared.cold.Feed.{Feed}
 use Rattle.draw_off.specs.Event.{Event, drawAll}
 use Rattle.heating.specs.declared.SetPoints.{SetPoints}
 use Rattle.heating.specs.Turn.{Turned, turn, turnNumber}
@@ -88,12 +88,15 @@ withDraw temps t s = record {
   lines = s .lines;
 }
 
-unfoldable pub events : Cylinder → Float → List Float → Progress → Work
-events c feed vs s =
-    let d = drawAll c feed vs 0 (s .temps) (s .totals) in
+unfoldable pub events : Fixed → Feed → List Float → Progress → Work
+events f feed vs s =
+    let d = drawAll (f .cylinder) (f .vol) feed vs 0 (s .temps) (s .totals) in
     record { events = d .events; turns = []; end = endBy (d .end .number) (withDraw (d .end .temps) (d .end .totals) s) }
 
--- the volumes of the step's events
+-- the step's feed, and the volumes of its events
+abbrev pub feedIn : Step → Feed
+feedIn a = record { temperature = a .feed }
+
 abbrev pub wantedVolumes : Step → List Float
 wantedVolumes a = tabulate (λ (i : ℕ). getD (a .volumes) i nan) (a .events) 0
 
@@ -118,7 +121,7 @@ unfoldable pub turnOf : Fixed → Step → ℕ → Progress → Turn
 turnOf f a h s =
     let c = f .cylinder in
     let x = immersionOf f h in
-    let u = turn c (layerVolumes c) x (pointsOf a h) (s .temps) (s .charged) (getD (s .flags) h false) in
+    let u = turn c (f .vol) x (pointsOf a h) (s .temps) (s .charged) (getD (s .flags) h false) in
     record {
       heater = h;
       points = pointsOf a h;
@@ -185,7 +188,7 @@ allTurns f a s = turns f a (workingOrder f) (withAverage (f .cylinder) s)
 -- the first refusal of the checks, and else the events and then the heaters in turn
 unfoldable pub begin : Fixed → State → Step → ℕ → Work
 begin f st a (suc n) = stop (suc n)
-begin f st a zero = closing (andThen (events (f .cylinder) (a .feed) (wantedVolumes a) (opening st)) (λ s. allTurns f a s))
+begin f st a zero = closing (andThen (events f (feedIn a) (wantedVolumes a) (opening st)) (λ s. allTurns f a s))
 
 unfoldable pub work : Fixed → State → Step → Work
 work f st a = begin f st a (stepRefusal f st a)

@@ -14,7 +14,7 @@ keep-sum-requires c κs =
     let start = c .before .before .before .before in
     let a = start .args in
     let within = untouched-within (a .c) (a .feed) (a .temps .now) (a .wanted) (a .vol .now) (a .totals .weighted) (a .totals .drawn) in
-    (omega (arith, c .extract-hot-water .ensures .1, within, start .pre .1), start .pre .3)
+    (omega (arith, c .extract-hot-water .ensures .1, within, start .pre .1), start .pre .2)
 
 volume-used-requires : tie.Need-volume-used-requires
 volume-used-requires c κs =
@@ -48,7 +48,6 @@ returns c =
     let start = draw .before .before .before .before in
     let a = start .args in (
       event-worked (a .c) (a .feed) (a .wanted) (a .temps .now) (a .totals) (a .vol .now) _ (draw .extract-hot-water .result) _ _ _ _ _ _ _ _ record {
-        full = start .pre .2;
         draws = draw .extract-hot-water .ensures .0;
         uses = used .volume-used .ensures;
         fills = refill .calc-temps-after-extraction .ensures;

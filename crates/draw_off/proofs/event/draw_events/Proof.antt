@@ -18,7 +18,7 @@ abbrev volumeAt : List Float → ℕ → Float
 volumeAt volumes i = getD volumes i nan
 
 abbrev Inv-loop : tie.InvT-loop
-Inv-loop c vol feed n volumes temps₀ t₀ kept₀ k₀ temps t kept k = (k ≤ n) × (drawAll c feed (tabulate (volumeAt volumes) (n - k) k) 0 temps t .end ≡ drawAll c feed (tabulate (volumeAt volumes) n 0) 0 temps₀ t₀ .end) × IsSumOf vol kept
+Inv-loop c vol feed n volumes temps₀ t₀ kept₀ k₀ temps t kept k = (k ≤ n) × (drawAll c vol feed (tabulate (volumeAt volumes) (n - k) k) 0 temps t .end ≡ drawAll c vol feed (tabulate (volumeAt volumes) n 0) 0 temps₀ t₀ .end) × IsSumOf vol kept
 
 abbrev μ-loop : tie.MeasureT-loop
 μ-loop c vol feed n volumes temps₀ t₀ kept₀ k₀ temps t kept k = n - k
@@ -44,7 +44,7 @@ returns c =
     let test = event .before .before .before in
     let at = test .before .loop in
     let a = test .before .before .before .args in
-    events-refused (a .c) (a .feed) (volumeAt (a .volumes .now)) _ _ (at .temps) _ (at .t) (event .draw-event .result .answer) _ (test .loop-test .taken) (at .inv .1) (event .draw-event .ensures .0) (c .if1 .taken)
+    events-refused (a .c) (a .vol .now) (a .feed) (volumeAt (a .volumes .now)) _ _ (at .temps) _ (at .t) (event .draw-event .result .answer) _ (test .loop-test .taken) (at .inv .1) (event .draw-event .ensures .0) (c .if1 .taken)
 
 add-k : tie.Need-add-k Inv-loop μ-loop
 add-k c = search needs
@@ -59,13 +59,13 @@ loop-again c =
     let test = event .before .before .before in
     let at = test .before .loop in
     let a = test .before .before .before .args in
-    (omega arith, events-next (a .c) (a .feed) (volumeAt (a .volumes .now)) _ _ (at .temps) _ (at .t) (event .draw-event .result .answer) _ (test .loop-test .taken) (at .inv .1) (event .draw-event .ensures .0) (told .if1 .left), event .draw-event .ensures .1)
+    (omega arith, events-next (a .c) (a .vol .now) (a .feed) (volumeAt (a .volumes .now)) _ _ (at .temps) _ (at .t) (event .draw-event .result .answer) _ (test .loop-test .taken) (at .inv .1) (event .draw-event .ensures .0) (told .if1 .left), event .draw-event .ensures .1)
 
 returns-2 : tie.Need-returns-2 Inv-loop μ-loop
 returns-2 c =
     let at = c .before .loop in
     let a = c .before .before .before .args in
-    events-end (a .c) (a .feed) (volumeAt (a .volumes .now)) _ (at .k) (at .temps) (at .t) _ (c .loop-test .left) (at .inv .1)
+    events-end (a .c) (a .vol .now) (a .feed) (volumeAt (a .volumes .now)) _ (at .k) (at .temps) (at .t) _ (c .loop-test .left) (at .inv .1)
 
 pub draw-events-spec : {M : Type 1} → statement M
 draw-events-spec =

@@ -19,11 +19,14 @@ returns c =
     let mixed = c .before in
     let at = mixed .before .before in
     let a = at .before .args in
-    rw (at .if1 .taken, ← at .before .pre .2) (c .number-of .ensures ∙ (rw (mixed .rearrange-temperatures .ensures .0) (mixing-number (rearrange (a .c .layers) (a .vol .now) (a .temps .now)))), mixed .rearrange-temperatures .ensures .1)
+    rw (at .if1 .taken) record {
+      draws = c .number-of .ensures ∙ (rw (mixed .rearrange-temperatures .ensures .0) (mixing-number (rearrange (a .n) (a .vol .now) (a .temps .now))));
+      leaves = mixed .rearrange-temperatures .ensures .1;
+    }
 
 returns-2 : tie.Need-returns-2
 unfolding eventMixing
-returns-2 c = rw (c .if1 .left) (refl, refl)
+returns-2 c = rw (c .if1 .left) record { draws = refl; leaves = refl }
 
 pub mix-event-spec : {M : Type 1} → statement M
 mix-event-spec =

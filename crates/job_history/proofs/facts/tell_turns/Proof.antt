@@ -17,7 +17,7 @@ working-order-requires : tie.Need-working-order-requires
 working-order-requires c κs = search needs
 
 tell-in-order-requires : tie.Need-tell-in-order-requires
-tell-in-order-requires c κs = (omega arith, omega arith, omega arith, c .before .before .before .before .before .before .pre .3, search needs, λ k l. entry _ _ _ (c .before .before .before .working-order .ensures) k l)
+tell-in-order-requires c κs = (omega arith, omega arith, omega arith, search needs, λ k l. entry _ _ _ (c .before .before .before .working-order .ensures) k l)
 
 returns : tie.Need-returns
 returns c =

@@ -7,7 +7,7 @@ use borrow.Author.Tests.{eq-eqb, ne-eqb}
 use lib.ListN.{take}
 use Rattle.working_order.specs.Order.{risingOrder}
 use Rattle.working_order.proofs.Entries.{first-entries, entry}
-use Rattle.tank_model.specs.Fixed.{placedHeaters}
+use Rattle.tank_model.specs.Fixed.{placedHeaters, fixedBy}
 use Rattle.tank_model.specs.Order.{workingOrder}
 use Rattle.step_work.proofs.TurnLoop.{order-is}
 use Rattle.storage_tank.specs.Tank.{fixedIn}
@@ -48,7 +48,7 @@ returns-2 c =
     let args = c .before .before .before .before .before .before .before .before .before .before .before .before .before .before .before .before .args in
     let t = args .s .tank in
     let n = c .before .before .before .before .before .before .before .before .at-most .result in
-    let order : take n (c .before .before .before .before .before .working-order .result) ≡ workingOrder (record { cylinder = fixedIn t .cylinder; heaters = placedHeaters n (t .fitted) }) = first-entries _ _ _ (c .before .before .before .before .before .working-order .ensures) ∙ (ap (λ (ps : List Float). risingOrder ps n) (c .before .before .before .before .before .before .before .positions-of .ensures) ∙ sym (order-is (fixedIn t .cylinder) n (t .fitted) (omega arith))) in
+    let order : take n (c .before .before .before .before .before .working-order .result) ≡ workingOrder (fixedBy (fixedIn t .cylinder) (placedHeaters n (t .fitted))) = first-entries _ _ _ (c .before .before .before .before .before .working-order .ensures) ∙ (ap (λ (ps : List Float). risingOrder ps n) (c .before .before .before .before .before .before .before .positions-of .ensures) ∙ sym (order-is (fixedIn t .cylinder) n (t .fitted) (omega arith))) in
     rw (eq-eqb _ _ (c .before .before .before .before .before .before .before .before .before .before .before .if1 .left), ← c .before .before .before .before .before .before .before .before .at-most .ensures .0, ← accepted-order (args .index) (args .s .report) (t .layers) (t .temps) n _ _ order) (c .before .before .accepted-lines .ensures)
 
 pub step-lines-spec : {M : Type 1} → statement M
