@@ -2,6 +2,7 @@
 
 import errno
 import os
+import select
 import stat
 import sys
 import tempfile
@@ -57,13 +58,22 @@ def size_of(file):
     return held.st_size if stat.S_ISREG(held.st_mode) else None
 
 
+def under(stream):
+    """The stream without its buffer, which would not say that nothing has come yet, or that a part was taken."""
+    return getattr(stream.buffer, "raw", stream.buffer)
+
+
 def pieces_of(file, name):
+    """All bytes to come, also of a file that answers None where nothing has come yet."""
     size, parts, count = size_of(file), [], 0
     progress.now("reading %s: byte" % name, size)
     if size is None:
         progress.now_told(lambda: "reading %s: %s bytes so far" % (name, format(count, ",")))
     while True:
-        part = file.read1(PIECE)
+        part = file.read(PIECE)
+        if part is None:
+            select.select([file], [], [])
+            continue
         if not part:
             return b"".join(parts)
         parts.append(part)
@@ -78,14 +88,25 @@ def get(path):
         if path == "-":
             if sys.stdin is None:
                 raise OSError(errno.EBADF, None)
-            return pieces_of(sys.stdin.buffer, name)
-        with open(path, "rb") as file:
+            return pieces_of(under(sys.stdin), name)
+        with open(path, "rb", buffering=0) as file:
             return pieces_of(file, name)
     except OSError as error:
         raise CannotRead(sentence(name, error, "read")) from None
 
 
 # Writing
+
+
+def carry(file, data):
+    """Writes all of it, by parts where there is room for a part, and waits where there is none for now."""
+    rest = memoryview(data)
+    while rest:
+        taken = file.write(rest)
+        if taken is None:
+            select.select([], [file], [])
+        else:
+            rest = rest[taken:]
 
 
 def write_whole(path, data):
@@ -95,10 +116,10 @@ def write_whole(path, data):
         with open(path, "wb") as file:
             file.write(data)
         return
-    path = os.path.realpath(path)
+    given, path = path, os.path.realpath(path)
     folder = os.path.dirname(path)
     if not os.path.isdir(folder):
-        raise CannotWrite("%s: there is no such folder" % folder)
+        raise CannotWrite("%s cannot be written: there is no such folder" % given)
     handle, beside = tempfile.mkstemp(prefix=".", suffix=".part", dir=folder)
     try:
         with os.fdopen(handle, "wb") as file:
@@ -131,8 +152,7 @@ def put(path, data):
             if sys.stdout is None:
                 raise OSError(errno.EBADF, None)
             sys.stdout.flush()
-            sys.stdout.buffer.write(data)
-            sys.stdout.buffer.flush()
+            carry(under(sys.stdout), data)
         else:
             write_whole(path, data)
             progress.over()

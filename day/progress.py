@@ -30,7 +30,7 @@ class Line:
         while not self.ended.wait(pause):
             words = self.words()
             if words:
-                words = fitted(words) if there else words
+                words = fitted(words) if there and sys.stderr else words
                 write("\r" + words.ljust(self.width) if there else words + "\n")
                 self.width = len(words) if there else 0
             pause, later = later, later if there else min(SELDOM, 2 * later)
@@ -59,12 +59,13 @@ def fitted(words):
 
 
 def write(words):
-    """Nobody may be there to read it."""
+    """Nobody may be there to read it; then no more is written, not what is held back either."""
     try:
-        sys.stderr.write(words)
-        sys.stderr.flush()
+        if sys.stderr is not None:
+            sys.stderr.write(words)
+            sys.stderr.flush()
     except (OSError, ValueError):
-        pass
+        sys.stderr = None
 
 
 LINE = Line()

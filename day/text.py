@@ -208,7 +208,7 @@ class Lines:
         try:
             line = raw.decode("utf-8-sig" if at == 1 else "utf-8").strip()
         except UnicodeDecodeError as error:
-            raise Unfit("expected text in UTF-8, found the byte %02x" % raw[error.start]) from None
+            raise Unfit("expected text in UTF-8 (save it so), found the byte %02x" % raw[error.start]) from None
         plain, _, comment = line.partition("#")
         if self.title is None and not plain and comment.strip() and not self.tanks:
             self.title = comment.strip()
@@ -220,7 +220,7 @@ def read_text(data):
     """The day that the bytes of a text hold; WrongLine has the lines that are not of one."""
     lines, found = Lines(), data.split(b"\n")
     for at, raw in enumerate(found, 1):
-        progress.at(at)
+        progress.at(at - 1)
         try:
             lines.line(at, raw)
         except Unfit as unfit:

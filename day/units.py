@@ -10,7 +10,7 @@ HOUR, MINUTE, WATT = Fraction(1), Fraction(1, 60), Fraction(1, 1000)
 
 # The units of a job, and how else they may be written: each spelling with what one of it is in the job's unit.
 SPELLINGS = {
-    "litres": {"litres": 1, "litre": 1, "l": 1},
+    "litres": {"litres": 1, "litre": 1, "l": 1, "L": 1},
     "C": {"C": 1, "°C": 1, "degC": 1},
     "kW": {"kW": 1, "W": WATT},
     "hours": {"hours": HOUR, "hour": HOUR, "h": HOUR, "min": MINUTE, "minute": MINUTE, "minutes": MINUTE},

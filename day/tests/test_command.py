@@ -55,7 +55,7 @@ class Interrupted(Slow):
         for target in (self.old, os.path.join(self.folder, "new.txt")):
             status, said = self.interrupted_by(signal.SIGINT, target)
             self.assertEqual(status, 130)
-            self.assertIn(b"interrupted, nothing was written", said)
+            self.assertIn(b"interrupted, no file was written", said)
             self.assertEqual(self.files(), ["a.day", "old.txt"])
         self.assertEqual(self.read(self.old), b"kept")
 

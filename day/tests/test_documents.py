@@ -10,6 +10,7 @@ import textwrap
 import unittest
 
 from common import ROOT, bits
+import refusals
 import second_opinion  # noqa: F401  puts compare/ on the path
 import model
 
@@ -214,6 +215,52 @@ class Numbers(unittest.TestCase):
         self.assertGreater(len(rows), 10)
         for number, written, path in rows:
             self.assertIn(written, read(path), number)
+
+
+    def test_refusals_have_the_numbers_of_01(self):
+        """The rows of docs/MODEL.md are in its own words; their limits are those of 01's sentences."""
+        rows = dict(re.findall(r"^\| (\d+) \| ([A-Z][^|]+\.) \|$", read("docs/MODEL.md"), re.MULTILINE))
+        self.assertEqual(list(map(int, rows)), list(refusals.WORDS))
+        for number, words in refusals.WORDS.items():
+            limits = re.findall(r"\d+", re.sub(r"\([^)]*\)", "", words))
+            self.assertEqual(re.findall(r"\d+", rows[str(number)]), limits, number)
+
+    def test_sums_of_the_worked_figures(self):
+        """Each `sum = number` of the section, worked out again."""
+        section = " ".join(read("docs/MODEL.md").partition("## The figures, worked out")[2].split())
+        sums = re.findall(r"([\d(][\d (),.×/+-]*[\d)]) = (-?\d[\d.,]*\d|\d+)( / \d+)?", section)
+        self.assertGreater(len(sums), 11)
+        for left, right, over in sums:
+            first, second = (eval(side.replace("×", "*").replace(",", "")) for side in (left, right + over))
+            self.assertEqual(first, second, left)
+
+    def test_the_figures_are_those_of_01(self):
+        """A draw of one layer, of more than the tank, a warm feed, and the limit, by document 01 in Python."""
+        section = " ".join(read("docs/MODEL.md").partition("## The figures, worked out")[2].split())
+        for layers, feed, draw, due in ((4, 12, 16, "= 768"), (4, 12, 80, "= 3072"), (2, 70, 16, "= -160")):
+            tank = model.Tank(layers, 16.0 * layers, 0.0, 60.0, 1.0, 1.0, 20.0, 1.0)
+            tank.make()
+            (energy, *_), _ = model.run_step(tank, (float(feed), [float(draw)], []))
+            self.assertEqual(due, "= %g" % energy)
+            self.assertIn(due, section)
+
+
+class Small(unittest.TestCase):
+    def test_the_stack_is_as_measured(self):
+        (measured,) = re.findall(r"^A step's stack is ([\d,]+) bytes", read("docs/PERFORMANCE.md"), re.MULTILINE)
+        self.assertIn("a step takes %s bytes of stack" % measured, read("README.md"))
+
+    def test_damage_says_first_how_long_it_takes(self):
+        lines = [line for line in read("compare/damage").splitlines() if line and not line.startswith("#")]
+        told = [at for at, line in enumerate(lines) if re.search(r'echo ".*: 3 to 5 minutes on two cores', line)]
+        works = [at for at, line in enumerate(lines) if " damage " in line]
+        self.assertTrue(told and works and told[0] < works[0], lines)
+        self.assertIn("3 to 5 minutes on two cores, as it says first", read("compare/README.md"))
+
+    def test_licences(self):
+        for name in ("LICENSE", "NOTICE"):
+            self.assertTrue(read(name).startswith("The MIT License (MIT)\n\nCopyright (c) 20"), name)
+            self.assertIn("`%s` (MIT" % name, read("README.md"))
 
 
 # The sample program

@@ -4,6 +4,7 @@ import os
 import re
 import subprocess
 import sys
+import time
 import unittest
 from unittest import mock
 
@@ -12,6 +13,7 @@ import inputs
 import progress
 import records
 import report
+import text
 import turns
 
 TEXT = "# Ein Tag\n" + tank(layers=1) + "step feed 10 C\n" * 3
@@ -47,7 +49,7 @@ GIVEN += [
     (JOB[:-1], READERS[1:] + ("unpack",), ", byte 96: cut short: 12 bytes are to follow its length, 11 are there"),
     (JOB[:4] + b"\3" + JOB[5:], READERS[1:] + ("unpack",), ", byte 0: misplaced: a tank stands once"),
     (b"# nothing\n", READERS, ", line 2: expected a tank line, found the end"),
-    ("tank°\n".encode("latin-1"), READERS, ", line 1: expected text in UTF-8, found the byte b0"),
+    ("tank°\n".encode("latin-1"), READERS, ", line 1: expected text in UTF-8 (save it so), found the byte b0\n"),
 ]
 
 
@@ -162,7 +164,8 @@ class CannotWrite(Folder):
                 self.assertEqual(self.told(target), "day run: %s cannot be written: %s\n" % (target, words))
         long = self.path("x" * 300)
         self.assertEqual(self.told(long), "day run: %s cannot be written: the name is too long\n" % long)
-        self.assertIn("none: there is no such folder", self.told(self.path("none/table")))
+        for target in (self.path("none/table"), "none/table", self.path("a.day/table")):
+            self.assertEqual(self.told(target), "day run: %s cannot be written: there is no such folder\n" % target)
         self.assertEqual(self.files(), ["a.day"])
 
     def test_standard_output(self):
@@ -174,9 +177,60 @@ class CannotWrite(Folder):
         done = subprocess.run(["sh", "-c", " ".join(command) + " >&-"], stderr=subprocess.PIPE)
         self.assertEqual((done.returncode, but_progress(done.stderr)), (2, b"day run: standard output is closed\n"))
 
+    def test_standard_error(self):
+        """The exit status is the same where nobody can be told why."""
+        refused = self.write("b.day", TEXT.replace("150", "-150"))
+        for target in ("2>&-", "2>/dev/full", "2</dev/null"):
+            for file, status in ((self.path("none"), 2), (refused, 1), (self.day, 0)):
+                command = "%s %s run --csv %s %s" % (sys.executable, os.path.join(DAY, "day"), file, target)
+                done = subprocess.run(["sh", "-c", command], cwd=ROOT, stdout=subprocess.PIPE)
+                self.assertEqual((target, done.returncode, bool(done.stdout)), (target, status, status < 2))
+
     def test_to_standard_output_by_its_short_name(self):
         done = at_once("run", self.day, "-o", "-")
         self.assertEqual((done.returncode, done.stdout), (0, at_once("run", self.day).stdout))
+
+
+class WaitedFor(Folder):
+    """Streams that do not make the command wait: it waits by itself, and nothing is lost, with buffers and without."""
+
+    def start(self, unbuffered, **streams):
+        command = [sys.executable] + ["-u"] * unbuffered + [os.path.join(DAY, "day"), "unpack", "-"]
+        process = subprocess.Popen(command, cwd=ROOT, stderr=subprocess.PIPE, **streams)
+        self.addCleanup(process.stderr.close)
+        return process
+
+    def setUp(self):
+        super().setUp()
+        self.job = records.job_bytes(day_of(TEXT + "step feed 10 C, draws 1 litres\n" * 5000))
+        self.text = text.write_text(records.read_job(self.job)[0])
+
+    def test_input_that_has_not_come_yet(self):
+        for unbuffered in (False, True):
+            reading, writing = os.pipe()
+            os.set_blocking(reading, False)
+            process = self.start(unbuffered, stdin=reading, stdout=subprocess.PIPE)
+            os.close(reading)
+            with open(writing, "wb", buffering=0) as job:
+                job.write(self.job[:64])
+                self.assertIn(b"64 bytes so far", process.stderr.readline())
+                job.write(self.job[64:])
+            self.assertTrue(process.communicate()[0] == self.text)
+            self.assertEqual(process.returncode, 0)
+
+    def test_output_that_has_no_room_yet(self):
+        path = self.write("given", self.job)
+        for unbuffered in (False, True):
+            reading, writing = os.pipe()
+            os.set_blocking(writing, False)
+            with open(path, "rb") as job:
+                process = self.start(unbuffered, stdin=job, stdout=writing)
+            os.close(writing)
+            with open(reading, "rb") as out:
+                self.assertEqual(out.read(1), self.text[:1])
+                time.sleep(0.2)  # the pipe is full meanwhile
+                self.assertTrue(out.read() == self.text[1:])
+            self.assertEqual((but_progress(process.stderr.read()), process.wait()), (b"", 0))
 
 
 class Progress(Folder):
@@ -231,6 +285,7 @@ class Progress(Folder):
             with mock.patch("progress.now", lambda *words: seen.append(words)), mock.patch("progress.at") as at:
                 inputs.day_of(path)
             counts = [call[0][0] for call in at.call_args_list]
+            self.assertIn(len(data), counts)
             self.assertIn(("reading %s: byte" % path, len(data)), seen)
             self.assertIn(("reading %s: %s" % (path, kind), total), seen)
             self.assertGreater(len([count for count in counts if 0 < count < total]), 900)

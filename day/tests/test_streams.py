@@ -1,4 +1,4 @@
-"""The program job on streams that fail, stall or are interrupted: all its lines come, or a beginning and the reason."""
+"""The programs on streams that fail, stall or are interrupted: all lines come, or a beginning and the reason."""
 
 import contextlib
 import fcntl
@@ -16,18 +16,13 @@ import unittest
 
 from common import ROOT
 
-JOB = os.path.join(ROOT, "target", "bin", "job")
 F_SETPIPE_SZ = 1031  # Linux's; fcntl has its name since Python 3.10
 MINUTE = struct.pack("ll", 60, 0)
 
 
-def stored(name):
-    with open(os.path.join(ROOT, "crates", "job", name), "rb") as file:
+def stored(program, name):
+    with open(os.path.join(ROOT, "crates", program, name), "rb") as file:
         return file.read()
-
-
-# A job, and its lines, to which the gate holds the program.
-INPUT, TEXT = stored("stdin"), stored("stdout")
 
 
 def limit_of_5000():
@@ -35,10 +30,18 @@ def limit_of_5000():
 
 
 class Streams(unittest.TestCase):
-    """The program on streams of the test's choice. It is killed if it does not end."""
+    """A program on streams of the test's choice. It is killed if it does not end."""
 
-    def start(self, stdin, stdout, command=(JOB,), **options):
-        process = subprocess.Popen(command, stdin=stdin, stdout=stdout, stderr=subprocess.PIPE, **options)
+    name = "job"
+
+    def setUp(self):
+        self.program = os.path.join(ROOT, "target", "bin", self.name)
+        # A job, and its lines, to which the gate holds the program.
+        self.input, self.text = stored(self.name, "stdin"), stored(self.name, "stdout")
+
+    def start(self, stdin, stdout, command=(), **options):
+        words = [*command, self.program]
+        process = subprocess.Popen(words, stdin=stdin, stdout=stdout, stderr=subprocess.PIPE, **options)
         timer = threading.Timer(20, process.kill)
         timer.start()
         for cleanup in (process.stderr.close, process.wait, process.kill, timer.cancel):
@@ -48,7 +51,7 @@ class Streams(unittest.TestCase):
     def job(self):
         file = tempfile.TemporaryFile()
         self.addCleanup(file.close)
-        file.write(INPUT)
+        file.write(self.input)
         file.seek(0)
         return file
 
@@ -107,7 +110,8 @@ class Streams(unittest.TestCase):
         return b"".join(pieces)
 
     def assert_said(self, process, said):
-        self.assertEqual(process.stderr.read().decode(), said)
+        """Nothing, or one line: the program, the stream and the reason."""
+        self.assertEqual(process.stderr.read().decode(), said and "%s: %s\n" % (self.name, said))
         self.assertEqual(process.wait(), 0)
 
 
@@ -115,27 +119,27 @@ class Output(Streams):
     def test_device_that_is_full(self):
         with open("/dev/full", "wb") as full:
             process = self.start(self.job(), full)
-        self.assert_said(process, "job: standard output: No space left on device\n")
+        self.assert_said(process, "standard output: No space left on device")
 
     def test_closed(self):
-        process = self.start(self.job(), None, ("sh", "-c", 'exec "$0" >&-', JOB))
-        self.assert_said(process, "job: standard output: Bad file descriptor\n")
+        process = self.start(self.job(), None, ("sh", "-c", 'exec "$0" >&-'))
+        self.assert_said(process, "standard output: Bad file descriptor")
 
     def test_file_that_may_not_grow(self):
         """One write is taken in part, and the next fails."""
         with tempfile.TemporaryFile() as out:
             # Python ignores the signal SIGXFSZ, and so does the program here: else the system would end it.
             process = self.start(self.job(), out, restore_signals=False, preexec_fn=limit_of_5000)
-            self.assert_said(process, "job: standard output: File too large\n")
+            self.assert_said(process, "standard output: File too large")
             out.seek(0)
-            self.assertEqual(out.read(), TEXT[:5000])
+            self.assertEqual(out.read(), self.text[:5000])
 
     def test_nobody_reads(self):
         reading, writing = self.pair(os.pipe())
         os.close(reading)
         # Python ignores SIGPIPE, and so does the program here.
         process = self.start(self.job(), writing, restore_signals=False)
-        self.assert_said(process, "job: standard output: Broken pipe\n")
+        self.assert_said(process, "standard output: Broken pipe")
 
     def test_full_pipe_is_waited_for(self):
         reading, writing = self.pair(os.pipe())
@@ -146,7 +150,7 @@ class Output(Streams):
         os.close(writing)
         self.wait_for(process, "S")  # it sleeps meanwhile, and does not ask over and over
         time.sleep(0.2)
-        self.assertEqual(self.slowly(reading), filled + TEXT)
+        self.assertEqual(self.slowly(reading), filled + self.text)
         self.assert_said(process, "")
 
     def test_terminal_that_takes_a_part(self):
@@ -156,7 +160,7 @@ class Output(Streams):
         filled = self.fill(terminal)
         process = self.start(self.job(), terminal)
         os.close(terminal)
-        self.assertEqual(self.slowly(ours), filled + TEXT)
+        self.assertEqual(self.slowly(ours), filled + self.text)
         self.assert_said(process, "")
 
     def test_interrupted(self):
@@ -166,7 +170,7 @@ class Output(Streams):
         for _ in range(3):
             self.interrupt(process)
         with ours.makefile("rb") as whole:
-            self.assertEqual(whole.read(), TEXT)
+            self.assertEqual(whole.read(), self.text)
         self.assert_said(process, "")
 
 
@@ -176,6 +180,10 @@ class Input(Streams):
         self.addCleanup(file.close)
         return file
 
+    def pieces(self):
+        size = len(self.input) // 10
+        return [self.input[at : at + size] for at in range(0, len(self.input), size)]
+
     def assert_printed(self, out, text):
         out.seek(0)
         self.assertEqual(out.read(), text)
@@ -184,13 +192,13 @@ class Input(Streams):
         folder, out = os.open(ROOT, os.O_RDONLY), self.out()
         self.addCleanup(self.close, folder)
         process = self.start(folder, out)
-        self.assert_said(process, "job: standard input: Is a directory\n")
+        self.assert_said(process, "standard input: Is a directory")
         self.assert_printed(out, b"")
 
     def test_closed(self):
         out = self.out()
-        process = self.start(None, out, ("sh", "-c", 'exec "$0" <&-', JOB))
-        self.assert_said(process, "job: standard input: Bad file descriptor\n")
+        process = self.start(None, out, ("sh", "-c", 'exec "$0" <&-'))
+        self.assert_said(process, "standard input: Bad file descriptor")
         self.assert_printed(out, b"")
 
     def test_broken_off(self):
@@ -201,30 +209,46 @@ class Input(Streams):
             other = server.accept()[0]
         with ours, other:
             process = self.start(other, out)
-            ours.sendall(INPUT[: len(INPUT) // 2])
+            ours.sendall(self.input[: len(self.input) // 2])
             time.sleep(0.1)
             ours.setsockopt(socket.SOL_SOCKET, socket.SO_LINGER, struct.pack("ii", 1, 0))
-        self.assert_said(process, "job: standard input: Connection reset by peer\n")
+        self.assert_said(process, "standard input: Connection reset by peer")
         self.assert_printed(out, b"")
 
     def test_empty_pipe_is_waited_for(self):
         out, (reading, writing) = self.out(), self.pair(os.pipe())
         os.set_blocking(reading, False)
         process = self.start(reading, out)
-        for at in range(0, len(INPUT), 200):
+        for piece in self.pieces():
             time.sleep(0.02)
-            os.write(writing, INPUT[at : at + 200])
+            os.write(writing, piece)
         os.close(writing)
         self.assert_said(process, "")
-        self.assert_printed(out, TEXT)
+        self.assert_printed(out, self.text)
 
     def test_interrupted(self):
         out, (ours, other) = self.out(), self.sockets((socket.SO_RCVTIMEO, MINUTE))
         process = self.start(other, out)
         other.close()
-        for at in range(0, len(INPUT), 1000):
+        for piece in self.pieces():
             self.interrupt(process)
-            ours.sendall(INPUT[at : at + 1000])
+            ours.sendall(piece)
         ours.close()
         self.assert_said(process, "")
-        self.assert_printed(out, TEXT)
+        self.assert_printed(out, self.text)
+
+
+class OutputOfHistory(Output):
+    name = "history"
+
+
+class InputOfHistory(Input):
+    name = "history"
+
+
+class OutputOfLongJob(Output):
+    name = "long_job"
+
+
+class InputOfLongJob(Input):
+    name = "long_job"

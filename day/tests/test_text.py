@@ -263,7 +263,7 @@ class Units(unittest.TestCase):
             self.assertEqual(self.day(length="0.5 " + unit).tank.step_length, 0.5)
         for unit in ("min", "minute", "minutes"):
             self.assertEqual(self.day(length="30 " + unit).tank.step_length, 0.5)
-        for unit in ("l", "litre", "litres"):
+        for unit in ("l", "L", "litre", "litres"):
             self.assertEqual(self.day(volume="120.5 " + unit).tank.volume, 120.5)
         for unit in ("C", "°C", "degC"):
             self.assertEqual(self.day(initial="-3 " + unit).tank.initial, -3.0)
