@@ -3,6 +3,7 @@
 It says in one line how far it is and how long it may still take; what rt prints goes to a file under target/.
 """
 
+import contextlib
 import os
 import re
 import shutil
@@ -156,21 +157,42 @@ def stop(process):
         pass
     except (subprocess.TimeoutExpired, KeyboardInterrupt):
         os.killpg(process.pid, signal.SIGKILL)
+        process.wait()
+
+
+@contextlib.contextmanager
+def held_back():
+    """A signal that comes meanwhile is heeded at the end: what was being started is known by then, and is ended."""
+    came, before = [], {}
+    for number in (signal.SIGINT, signal.SIGTERM, signal.SIGHUP):
+        if callable(signal.getsignal(number)):
+            before[number] = signal.signal(number, lambda *told: came.append(told))
+    try:
+        yield
+    finally:
+        for number, handler in before.items():
+            signal.signal(number, handler)
+    for number, frame in came:
+        before[number](number, frame)
 
 
 def ask(rt, estimate, log):
     """Runs rt; the answer is its exit status. Whatever interrupts this ends rt too."""
     words = [rt, "check", *PROGRAMS]
     said = dict(stdin=subprocess.DEVNULL, stdout=subprocess.PIPE, stderr=subprocess.STDOUT)
-    with open(log, "wb") as out, subprocess.Popen(words, cwd=ROOT, start_new_session=True, **said) as process:
+    process = None
+    with open(log, "wb") as out:
         try:
-            for line in process.stdout:
-                out.write(line)
-                out.flush()
-                estimate.line(line.decode("utf-8", "replace"))
+            with held_back():
+                process = subprocess.Popen(words, cwd=ROOT, start_new_session=True, **said)
+            with process.stdout:
+                for line in process.stdout:
+                    out.write(line)
+                    out.flush()
+                    estimate.line(line.decode("utf-8", "replace"))
             return process.wait()
         finally:
-            if process.poll() is None:
+            if process is not None and process.poll() is None:
                 stop(process)
 
 

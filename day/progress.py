@@ -21,7 +21,8 @@ class Line:
 
     def counted(self):
         if self.total is None:
-            return "%s, for %d s" % (self.what, time.monotonic() - self.since) if self.what else ""
+            seconds = int(time.monotonic() - self.since)
+            return "%s, for %d s" % (self.what, seconds) if self.what and seconds else self.what
         return "%s %s of %s" % (self.what, format(self.count, ","), format(self.total, ","))
 
     def show(self):

@@ -299,6 +299,7 @@ class Progress(Folder):
     def test_what_has_no_count_says_how_long_it_takes(self):
         with mock.patch("time.monotonic", return_value=5.0):
             progress.now("drawing")
+            self.assertEqual(progress.LINE.words(), "drawing")
         with mock.patch("time.monotonic", return_value=17.5):
             self.assertEqual(progress.LINE.words(), "drawing, for 12 s")
         progress.now("job: step", 17520)

@@ -216,6 +216,22 @@ class Interrupted(Sample):
         self.assertEqual(self.sample()[0], 0)
 
 
+    def test_while_rt_is_being_started(self):
+        started, popen = [], subprocess.Popen
+
+        def start(*_, **options):
+            started.append(popen(["sleep", "300"], **options))
+            os.kill(os.getpid(), signal.SIGINT)
+            return started[0]
+
+        self.addCleanup(signal.signal, signal.SIGINT, signal.signal(signal.SIGINT, signal.default_int_handler))
+        with mock.patch("subprocess.Popen", start), self.assertRaises(KeyboardInterrupt):
+            build.ask("rt", None, self.path("log"))
+        for cleanup in (started[0].stdout.close, started[0].kill):
+            self.addCleanup(cleanup)
+        self.assertEqual(started[0].poll(), -signal.SIGTERM)
+
+
 class HowFar(Sample):
     # mixing 41, job beside history 24, long_job 24.
     WORDS = re.compile(rb"building: crate 2 of 5, mixing; about [6-9]0 s left")
