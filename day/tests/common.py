@@ -49,13 +49,13 @@ def stored_end(lines):
 
 def day_command(*words, **options):
     """Runs day/day from the top of the repository."""
-    command = [sys.executable, os.path.join(DAY, "day")] + list(words)
+    command = [sys.executable, os.path.join(DAY, "command.py")] + list(words)
     return subprocess.run(command, cwd=ROOT, stdout=subprocess.PIPE, stderr=subprocess.PIPE, **options)
 
 
 def loaded():
     """The command as a module, whose main() can be called."""
-    loader = importlib.machinery.SourceFileLoader("day_command", os.path.join(DAY, "day"))
+    loader = importlib.machinery.SourceFileLoader("day_command", os.path.join(DAY, "command.py"))
     module = importlib.util.module_from_spec(importlib.util.spec_from_loader("day_command", loader))
     loader.exec_module(module)
     return module

@@ -40,7 +40,7 @@ class Interrupted(Slow):
         programs = os.path.join(self.folder, "bin")
         if not os.path.isdir(programs):
             self.programs(1000, 0.05)
-        command = [sys.executable, os.path.join(DAY, "day"), "run", self.day, "--programs", programs, "-o", target]
+        command = [sys.executable, os.path.join(DAY, "command.py"), "run", self.day, "--programs", programs, "-o", target]
         started = os.path.join(programs, "started")
         process = subprocess.Popen(command, cwd=ROOT, stderr=subprocess.PIPE)
         until = time.monotonic() + 30
@@ -82,7 +82,7 @@ class Interrupted(Slow):
 
 class Said(Slow):
     def begun(self, steps, pause):
-        command = [sys.executable, os.path.join(DAY, "day"), "run", self.day, "--programs", self.programs(steps, pause)]
+        command = [sys.executable, os.path.join(DAY, "command.py"), "run", self.day, "--programs", self.programs(steps, pause)]
         self.began = time.monotonic()
         return subprocess.Popen(command, cwd=ROOT, stdout=subprocess.PIPE, stderr=subprocess.PIPE)
 

@@ -89,9 +89,19 @@ class Given(Folder):
         self.assertEqual(done.stderr.decode(), "day run: %s cannot be read: there is no permission for it\n" % path)
 
     def test_standard_input_closed(self):
-        closed = "%s %s run - <&-" % (sys.executable, os.path.join(DAY, "day"))
+        closed = "%s %s run - <&-" % (sys.executable, os.path.join(DAY, "command.py"))
         done = subprocess.run(["sh", "-c", closed], cwd=ROOT, stdout=subprocess.PIPE, stderr=subprocess.PIPE)
         self.assertEqual((done.returncode, but_progress(done.stderr)), (2, b"day run: standard input is closed\n"))
+
+    def test_standard_input_is_a_folder(self):
+        """Python itself would end with an error of its own; a command that does not read it does not mind."""
+        given = dict(cwd=ROOT, stdout=subprocess.PIPE, stderr=subprocess.PIPE, stdin=os.open(self.folder, os.O_RDONLY))
+        self.addCleanup(os.close, given["stdin"])
+        done = subprocess.run([os.path.join(DAY, "day"), "run", "-"], **given)
+        said = b"day run: standard input is a folder, not a file\n"
+        self.assertEqual((done.returncode, done.stdout, done.stderr), (2, b"", said))
+        done = subprocess.run([os.path.join(DAY, "day"), "pack", self.write("given", TEXT)], **given)
+        self.assertEqual((done.returncode, done.stdout), (0, JOB))
 
     def test_the_table_names_standard_input(self):
         done = at_once("run", "-", given=JOB)
@@ -169,7 +179,7 @@ class CannotWrite(Folder):
         self.assertEqual(self.files(), ["a.day"])
 
     def test_standard_output(self):
-        command = [sys.executable, os.path.join(DAY, "day"), "run", self.day]
+        command = [sys.executable, os.path.join(DAY, "command.py"), "run", self.day]
         with open("/dev/full", "wb") as full:
             done = subprocess.run(command, stdout=full, stderr=subprocess.PIPE)
         said = b"day run: standard output cannot be written: no space is left for it\n"
@@ -182,7 +192,7 @@ class CannotWrite(Folder):
         refused = self.write("b.day", TEXT.replace("150", "-150"))
         for target in ("2>&-", "2>/dev/full", "2</dev/null"):
             for file, status in ((self.path("none"), 2), (refused, 1), (self.day, 0)):
-                command = "%s %s run --csv %s %s" % (sys.executable, os.path.join(DAY, "day"), file, target)
+                command = "%s %s run --csv %s %s" % (sys.executable, os.path.join(DAY, "command.py"), file, target)
                 done = subprocess.run(["sh", "-c", command], cwd=ROOT, stdout=subprocess.PIPE)
                 self.assertEqual((target, done.returncode, bool(done.stdout)), (target, status, status < 2))
 
@@ -195,7 +205,7 @@ class WaitedFor(Folder):
     """Streams that do not make the command wait: it waits by itself, and nothing is lost, with buffers and without."""
 
     def start(self, unbuffered, **streams):
-        command = [sys.executable] + ["-u"] * unbuffered + [os.path.join(DAY, "day"), "unpack", "-"]
+        command = [sys.executable] + ["-u"] * unbuffered + [os.path.join(DAY, "command.py"), "unpack", "-"]
         process = subprocess.Popen(command, cwd=ROOT, stderr=subprocess.PIPE, **streams)
         self.addCleanup(process.stderr.close)
         return process
@@ -239,7 +249,7 @@ class Progress(Folder):
     def begun(self, stderr):
         """The command, with all of a text but its last byte on its standard input."""
         streams = dict(stdin=subprocess.PIPE, stdout=subprocess.PIPE, stderr=stderr)
-        process = subprocess.Popen([sys.executable, os.path.join(DAY, "day"), "run", "-"], cwd=ROOT, **streams)
+        process = subprocess.Popen([sys.executable, os.path.join(DAY, "command.py"), "run", "-"], cwd=ROOT, **streams)
         self.addCleanup(process.wait)
         process.stdin.write(TEXT[:-1].encode())
         process.stdin.flush()
@@ -267,7 +277,7 @@ class Progress(Folder):
         pipe = self.path("long" * 40)
         os.mkfifo(pipe)
         with Terminal() as terminal:
-            process = subprocess.Popen([sys.executable, os.path.join(DAY, "day"), "pack", pipe], stderr=terminal.inner)
+            process = subprocess.Popen([sys.executable, os.path.join(DAY, "command.py"), "pack", pipe], stderr=terminal.inner)
             with open(pipe, "wb"):
                 terminal.until(lambda shown: shown.count(b"\r") > 1)
             process.wait(30)

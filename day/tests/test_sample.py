@@ -56,7 +56,7 @@ class Sample(Folder):
         streams = dict(dict(stdout=subprocess.PIPE, stderr=subprocess.PIPE), **streams)
         where = self.path(path) + ":/usr/bin:/bin" if path == "path" else self.path(path)
         environment = dict(os.environ, PATH=where, RT_JOBS="2")
-        command = [sys.executable, os.path.join("day", "day"), "sample"]
+        command = [sys.executable, os.path.join("day", "command.py"), "sample"]
         process = subprocess.Popen(command, cwd=self.folder, env=environment, **streams)
         self.addCleanup(self.end, process)
         return process
