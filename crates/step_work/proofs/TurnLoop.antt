@@ -14,7 +14,7 @@ use Rattle.cylinder.specs.declared.Cylinder.{Cylinder}
 use Rattle.cylinder.specs.Layers.{layerVolumes}
 use Rattle.draw_off.specs.declared.Totals.{Totals}
 use Rattle.draw_off.specs.Event.{Event}
-use Rattle.heating.specs.Turn.{Turned, turn, turnNumber}
+use Rattle.immersion_heater.specs.Turn.{Turned, turn, turnNumber}
 use Rattle.working_order.specs.Order.{maxHeaters, risingOrder}
 use Rattle.working_order.proofs.Same.{rising-same}
 use Rattle.tank_model.specs.declared.Heater.{Heater}
