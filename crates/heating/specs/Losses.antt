@@ -9,7 +9,7 @@ use lib.Ieee.{Float, nan, lt}
 use Rattle.numeric.specs.Double.{_⊕_, _⊖_, _⊛_, _⊘_, zero-f, whole}
 use Rattle.numeric.specs.Compare.{minOf2, maxOf2}
 use Rattle.numeric.specs.Close.{wideClose}
-use Rattle.numeric.specs.Turns.{turns}
+use Rattle.numeric.specs.Iterate.{iterate}
 use Rattle.numeric.specs.Tabulate.{tabulate}
 use Rattle.numeric.specs.Places.{updateFirst}
 use Rattle.numeric.specs.Sum2.{sum2}

@@ -2,8 +2,8 @@
 use Prim.Native.Nat.{ℕ, _-_}
 use lib.Ieee.{Float}
 use Rattle.numeric.specs.Double.{_⊕_, _⊘_, zero-f}
-use Rattle.numeric.specs.Turns.{Rest, rest-start, rest-turn, rest-end}
-use Rattle.numeric.specs.Places.{updateTurn}
+use Rattle.numeric.specs.Iterate.{Rest, rest-start, rest-next, rest-end}
+use Rattle.numeric.specs.Places.{updateAt}
 use Rattle.cylinder.specs.Layers.{heatCapacity}
 use Rattle.heating.specs.Heat.{offersTo, heated}
 use borrow.Author.Needs.{needs}
