@@ -8,8 +8,8 @@ use borrow.Author.Tests.{eq-eqb, ne-eqb}
 use lib.Dec.{T, eqb}
 use lib.Ieee.{Float, binary64, fits, ofBits}
 use Rattle.numeric.specs.Double.{zero-f}
-use Rattle.numeric.specs.Turns.{turns}
-use Rattle.numeric.specs.Sum2.{nothing-added, accumulate, total, sum2-turns}
+use Rattle.numeric.specs.Iterate.{iterate}
+use Rattle.numeric.specs.Sum2.{nothing-added, accumulate, total, sum2-iterate}
 use Rattle.numeric.specs.Zeros.{IsZero}
 use Rattle.numeric.proofs.Members.{sum-members}
 use Rattle.heating.specs.Heat.{offersTo, inputOf}
@@ -37,10 +37,10 @@ module _ (layer : ℕ) (offer : Float) (f : T (fits binary64 offer)) where
 
   -- the law
   pub input-own : (n : ℕ) → layer < n → inputOf n (offersTo layer offer) ≡ total (accumulate nothing-added offer)
-  unfolding turns
+  unfolding iterate
   input-own n l =
       let g = offersTo layer offer in
       let one : layer + 1 - layer ≡ 1 = omega arith in
-      sum2-turns g n
+      sum2-iterate g n
       ∙ ap total (sum-members g g layer (layer + 1) n (omega arith) (omega arith) (λ j m o. other-zero j o) (λ j m u. (refl, offers-fit j)))
       ∙ rw (one, own)

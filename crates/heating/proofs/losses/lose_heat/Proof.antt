@@ -110,7 +110,7 @@ returns c =
     let at = c .before .before in
     let l = c .before .loop-test .left in
     record {
-      loses = rw (sum2-turns, c .total-of .ensures, rest-end _ _ _ _ _ l (at .loop .inv .2), at .before .start .ensures);
+      loses = rw (sum2-iterate, c .total-of .ensures, rest-end _ _ _ _ _ l (at .loop .inv .2), at .before .start .ensures);
       leaves = updating-end _ _ _ _ _ l (at .loop .inv .0);
       charged-with = updating-end _ _ _ _ _ l (at .loop .inv .1);
     }
