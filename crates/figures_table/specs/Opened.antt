@@ -16,11 +16,14 @@ use Rattle.draw_off.specs.Cold as Cold
 use Rattle.draw_off.specs.Draw as Draw
 use Rattle.draw_off.specs.Refill as Refill
 use Rattle.draw_off.specs.Event as Event
-use Rattle.heating.specs.Switch as Switch
+use Rattle.heating.specs.SetPoints as SetPoints
 use Rattle.heating.specs.Heat as Heat
 use Rattle.heating.specs.Losses as Losses
-use Rattle.heating.specs.Supply as Supply
-use Rattle.heating.specs.Turn as Turn
+use Rattle.heating.specs.FinalTemps as FinalTemps
+use Rattle.immersion_heater.specs.Switch as Switch
+use Rattle.immersion_heater.specs.Offer as Offer
+use Rattle.immersion_heater.specs.Supply as Supply
+use Rattle.immersion_heater.specs.Turn as Turn
 use Rattle.working_order.specs.Order as Sorting
 use Rattle.tank_model.specs.Fixed as Fixed
 use Rattle.tank_model.specs.Order as Order
@@ -38,10 +41,11 @@ unfolding I.round I.ofInt I.ofBits I.add I.sub I.mul I.div I.neg I.lt I.le I.eq 
     Refill.takeShare Refill.takeFrom Refill.takeBelow Refill.fromFeed Refill.entersWarmer Refill.fillingOf Refill.refillLayer Refill.refillLayers
     Refill.refill
     Event.eventMixing Event.eventOf Event.tempsAfterEvent Event.totalsAfterEvent Event.eventFinite Event.eventNumber Event.drawAll
-    Switch.hasUpper Switch.upperOf Switch.atOrUnderLower Switch.upperMissingOrReached Switch.switchOn Switch.switchOff Heat.offer Heat.heated
+    SetPoints.hasUpper SetPoints.upperOf Switch.atOrUnderLower Switch.upperMissingOrReached Switch.switchOn Switch.switchOff Heat.offersTo Heat.heated
     Losses.clearlyAbove Losses.overUpper Losses.standbyCoefficient Losses.warmed Losses.countedTemp Losses.standingLoss Losses.loss Losses.lossAt Losses.losses
     Losses.limitedTemp Losses.tempsAfter Losses.chargedAfter Losses.surplusTerm Losses.surplus Losses.adjusted
-    Supply.demand Supply.supply Turn.input Turn.heatAndMix Turn.adjustedInput Turn.afterMixing Turn.turn Turn.turnFinite Turn.turnNumber
+    FinalTemps.heatAndMix FinalTemps.adjustedInput FinalTemps.afterMixing FinalTemps.calcFinalTemps Offer.offer
+    Supply.demand Supply.supply Turn.afterHeat Turn.turn Turn.turnFinite Turn.turnNumber
     Fixed.placedHeaters Sorting.insert Sorting.insertionSort Sorting.risingOrder Order.workingOrder Checks.firstRefusal Checks.fairPoints
     Checks.makeRefusal Checks.stepRefusal
     Work.resume Work.andThen Work.endBy Work.events Work.averageOf Work.withAverage Work.turnOf Work.afterTurn

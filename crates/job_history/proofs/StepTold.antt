@@ -14,7 +14,7 @@ use Rattle.cylinder.specs.declared.Cylinder.{Cylinder}
 use Rattle.draw_off.specs.declared.event.EventAnswer.{EventAnswer}
 use Rattle.draw_off.specs.Lent.{maxEvents, drawingOf}
 use Rattle.draw_off.specs.Event.{Event, Drawing, drawAll}
-use Rattle.heating.specs.Turn.{turnNumber}
+use Rattle.immersion_heater.specs.Turn.{turnNumber}
 use Rattle.working_order.specs.Order.{maxHeaters}
 use Rattle.tank_model.specs.declared.Heater.{Heater}
 use Rattle.tank_model.specs.declared.Step.{Step}

@@ -12,7 +12,7 @@ use lib.Seq.{getD-drop, drop-drop, slice, slice-cons}
 use lib.Ieee.{Float}
 use Rattle.numeric.specs.Copy.{copied, copied-next}
 use Rattle.cylinder.specs.declared.Cylinder.{Cylinder}
-use Rattle.heating.specs.Turn.{turnNumber}
+use Rattle.immersion_heater.specs.Turn.{turnNumber}
 use Rattle.working_order.specs.Order.{maxHeaters}
 use Rattle.tank_model.specs.declared.Heater.{Heater}
 use Rattle.tank_model.specs.declared.Setting.{Setting}

@@ -4,7 +4,7 @@ ghost use mathlib.Core.List.{[]};
 ghost use Prim.Native.Nat.{ℕ, _≤_, _<_};
 ghost use lib.ListN.{getD, length, take};
 ghost use Rattle.mixing.specs.Limits.{maxLayers};
-ghost use Rattle.heating.specs.Turn.{turn};
+ghost use Rattle.immersion_heater.specs.Turn.{turn};
 ghost use Rattle.working_order.specs.Order.{maxHeaters};
 ghost use Rattle.tank_model.specs.Fixed.{placedHeaters, fixedBy};
 ghost use Rattle.tank_model.specs.Order.{workingOrder};
@@ -70,7 +70,7 @@ fn tell_turn(
     let i = step_work::turns::immersion_of(c.layers, x);
     let thermostat = i.thermostat;
     let start = temps[thermostat];
-    let u = heating::turn::turn(c, vol, i, p, flag, temps, charged);
+    let u = immersion_heater::turn::turn(c, vol, i, p, flag, temps, charged);
     let finish = temps[thermostat];
     ToldTurn {
         number: u.number,

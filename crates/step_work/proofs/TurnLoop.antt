@@ -13,7 +13,7 @@ use Rattle.numeric.specs.Whole.{layerOf}
 use Rattle.cylinder.specs.declared.Cylinder.{Cylinder}
 use Rattle.draw_off.specs.declared.Totals.{Totals}
 use Rattle.draw_off.specs.Event.{Event}
-use Rattle.heating.specs.Turn.{Turned, turn, turnNumber}
+use Rattle.immersion_heater.specs.Turn.{Turned, turn, turnNumber}
 use Rattle.working_order.specs.Order.{maxHeaters, risingOrder}
 use Rattle.working_order.proofs.Same.{rising-same}
 use Rattle.tank_model.specs.declared.Heater.{Heater}

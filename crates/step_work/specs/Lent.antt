@@ -10,8 +10,8 @@ use Rattle.numeric.specs.Double.{_⊕_, zero-f}
 use Rattle.numeric.specs.Whole.{layerOf}
 use Rattle.cylinder.specs.declared.Cylinder.{Cylinder}
 use Rattle.draw_off.specs.declared.Totals.{Totals}
-use Rattle.heating.specs.declared.turn.Immersion.{Immersion}
-use Rattle.heating.specs.Turn.{Turned, turnNumber}
+use Rattle.immersion_heater.specs.declared.turn.Immersion.{Immersion}
+use Rattle.immersion_heater.specs.Turn.{Turned, turnNumber}
 use Rattle.working_order.specs.Order.{maxHeaters}
 use Rattle.tank_model.specs.declared.Heater.{Heater}
 use Rattle.tank_model.specs.declared.Setting.{Setting}

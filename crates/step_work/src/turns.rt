@@ -6,7 +6,7 @@ ghost use Prim.Native.Nat.{ℕ, _≤_, _<_};
 ghost use lib.ListN.{getD, length, take};
 ghost use Rattle.numeric.specs.Tabulate.{tabulate};
 ghost use Rattle.mixing.specs.Limits.{maxLayers};
-ghost use Rattle.heating.specs.Turn.{turn};
+ghost use Rattle.immersion_heater.specs.Turn.{turn};
 ghost use Rattle.working_order.specs.Order.{maxHeaters};
 ghost use Rattle.tank_model.specs.Fixed.{noHeater};
 ghost use Rattle.tank_model.specs.Order.{workingOrder};
@@ -15,7 +15,7 @@ ghost use Rattle.tank_arrays.specs.Arrays.{fittedIn, settingsIn, HoldsLines, fi
 ghost use Rattle.step_work.specs.Lent.{immersion, noTurns, heatedIn, TurnWorked, TurnsWorked};
 use cylinder::Cylinder;
 use heating::SetPoints;
-use heating::turn::Immersion;
+use immersion_heater::turn::Immersion;
 use mixing::limits::MAX_LAYERS;
 use tank_arrays::arrays::THREE_EACH;
 use tank_arrays::arrays::TWO_EACH;
@@ -82,7 +82,7 @@ fn heat_turn(
     ensures { λ r. ⌜ TurnWorked c h (turn c (now (vol .entry)) (immersion (c .layers) x) p (now (temps .entry)) (now (charged .entry)) (getD (now (on .entry)) h false)) (heatedIn s (now (on .entry)) (now (figures .entry)) (now (flags .entry)) (now (rounds .entry))) (heatedIn r (now (on .exit)) (now (figures .exit)) (now (flags .exit)) (now (rounds .exit))) (now (temps .exit)) (now (charged .exit)) × HoldsLines (now (figures .exit)) (now (flags .exit)) (now (rounds .exit)) ⌝ }
 {
     let i = immersion_of(c.layers, x);
-    let u = heating::turn::turn(c, vol, i, p, on[h], temps, charged);
+    let u = immersion_heater::turn::turn(c, vol, i, p, on[h], temps, charged);
     on[h] = u.flag;
     let line = HeaterLine {
         flag: u.flag,

@@ -11,7 +11,7 @@ use Rattle.numeric.specs.Tabulate.{tabulate}
 use Rattle.cylinder.specs.declared.Cylinder.{Cylinder}
 use Rattle.heating.specs.declared.SetPoints.{SetPoints}
 use Rattle.heating.specs.declared.SetPoints.the-variants.{Neither, Lower, Upper, Both}
-use Rattle.heating.specs.Switch.{hasUpper, upperOf}
+use Rattle.heating.specs.SetPoints.{hasUpper, upperOf}
 use Rattle.working_order.specs.Order.{maxHeaters}
 use Rattle.tank_model.specs.declared.Heater.{Heater}
 use Rattle.tank_model.specs.declared.HeaterLine.{HeaterLine}

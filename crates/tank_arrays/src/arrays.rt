@@ -2,7 +2,7 @@
 ghost use mathlib.Core.Path.{_≡_};
 ghost use Prim.Native.Nat.{_+_, _<_};
 ghost use lib.ListN.{getD, length, set};
-ghost use Rattle.heating.specs.Switch.{hasUpper, upperOf};
+ghost use Rattle.heating.specs.SetPoints.{hasUpper, upperOf};
 ghost use Rattle.working_order.specs.Order.{maxHeaters};
 ghost use Rattle.tank_model.specs.Fixed.{noHeater};
 ghost use Rattle.tank_model.specs.Checks.{noSetting};
@@ -153,7 +153,7 @@ fn has_upper(x: Setting) -> bool
     ensures { λ r. ⌜ r ≡ hasUpper (x .points) ⌝ }
 {
     let p = x.points;
-    heating::switch::has_upper(p)
+    heating::set_points::has_upper(p)
 }
 
 // The lower set point, not-a-number where there is none.
@@ -174,7 +174,7 @@ fn upper_of(x: Setting) -> f64
     ensures { λ r. ⌜ r ≡ upperOf (x .points) ⌝ }
 {
     let p = x.points;
-    heating::switch::upper_of(p)
+    heating::set_points::upper_of(p)
 }
 
 // Whether the set points are present: the lower ones first, then the upper ones.

@@ -11,8 +11,8 @@ use Rattle.numeric.specs.Close.{wideClose}
 use Rattle.mixing.specs.Rearrange.{Mixing, sorted, unsorted}
 use Rattle.draw_off.specs.Event as Event
 use Rattle.draw_off.specs.Event.{Event, EventMixing, unmixed, mixed, tempsAfterEvent, totalsAfterEvent, eventFinite, eventNumber}
-use Rattle.heating.specs.Turn as Turn
-use Rattle.heating.specs.Turn.{turnFinite, turnNumber}
+use Rattle.immersion_heater.specs.Turn as Turn
+use Rattle.immersion_heater.specs.Turn.{turnFinite, turnNumber}
 use Rattle.tank_model.specs.declared.TankDesign.{TankDesign}
 use Rattle.tank_model.specs.Fixed.{State}
 use Rattle.tank_model.specs.Work.{Progress, Turn, done, endBy, withDraw, averageOf, withAverage, lineOf, afterTurn, opening, recoverable, closed}

@@ -10,7 +10,7 @@ use Rattle.draw_off.specs.Draw.{Draw}
 use Rattle.draw_off.specs.Refill.{Refill}
 use Rattle.draw_off.specs.Event.{Event, EventMixing}
 use Rattle.heating.specs.declared.SetPoints.{SetPoints}
-use Rattle.heating.specs.Turn.{Turned}
+use Rattle.immersion_heater.specs.Turn.{Turned}
 use Rattle.tank_model.specs.declared.HeaterLine.{HeaterLine}
 use Rattle.tank_model.specs.Fixed.{State}
 use Rattle.tank_model.specs.Work.{Progress, Turn}

@@ -17,14 +17,17 @@ use Rattle.mixing.specs.Rearrange.{Mixing, sorted, unsorted}
 use Rattle.cylinder.specs.Layers.{layerVolume, layerVolumes}
 use Rattle.heating.specs.declared.SetPoints.{SetPoints}
 use Rattle.heating.specs.declared.SetPoints.the-variants.{Neither, Lower, Upper, Both}
-use Rattle.heating.specs.Switch.{hasUpper, upperOf, atOrUnderLower, upperMissingOrReached, switchOn, switchOff}
-use Rattle.heating.specs.Heat.{offer, heated}
-use Rattle.heating.specs.Losses.{surplus, adjusted}
-use Rattle.heating.specs.Supply.{demand, supply}
-use Rattle.heating.specs.declared.turn.Immersion.{Immersion}
-use Rattle.heating.specs.Turn.{Turned, input, heatAndMix, adjustedInput, afterMixing, turn, turnNumber}
-use Rattle.heating.specs.SwitchLaws.{latched, switches-latch}
-use Rattle.heating.specs.SupplyLaws.{supply-at-most, supply-off}
+use Rattle.heating.specs.SetPoints.{hasUpper, upperOf}
+use Rattle.immersion_heater.specs.Switch.{atOrUnderLower, upperMissingOrReached, switchOn, switchOff}
+use Rattle.heating.specs.Heat.{offersTo, heated}
+use Rattle.heating.specs.Losses.{adjusted}
+use Rattle.heating.specs.FinalTemps.{FinalTemps, heatAndMix, adjustedInput, afterMixing, calcFinalTemps}
+use Rattle.immersion_heater.specs.Offer.{offer}
+use Rattle.immersion_heater.specs.Supply.{demand, supply}
+use Rattle.immersion_heater.specs.declared.turn.Immersion.{Immersion}
+use Rattle.immersion_heater.specs.Turn.{Turned, afterHeat, turn, turnNumber}
+use Rattle.immersion_heater.specs.SwitchLaws.{latched, switches-latch}
+use Rattle.immersion_heater.specs.SupplyLaws.{supply-at-most, supply-off}
 use Rattle.working_order.specs.Order.{maxHeaters}
 use Rattle.tank_model.specs.declared.TankDesign.{TankDesign}
 use Rattle.tank_model.specs.declared.Step.{Step}
@@ -124,15 +127,23 @@ module _ (m : TankDesign) (a : Step) where
   abbrev runs : ℕ → Progress → Bool
   runs h s = switchOn (pointsOf a h) (getD (s .temps) (thermostatLayer m h) nan) (getD (s .flags) h false)
 
+  -- what each layer is offered
+  abbrev offersFrom : ℕ → Bool → ℕ → Float
+  offersFrom h on = offersTo (heaterLayer m h) (offer on (maxEnergy m h))
+
   abbrev mixingOf : ℕ → Progress → Mixing
-  mixingOf h s = heatAndMix (cylinderOf m) (volumesOf m) (immersion h) (pointsOf a h) (s .temps) (s .charged) (runs h s)
+  mixingOf h s = heatAndMix (cylinderOf m) (volumesOf m) (pointsOf a h) (heaterLayer m h) (offersFrom h (runs h s)) (s .temps) (s .charged)
+
+  -- `calc_final_temps` by what the mixing came to
+  abbrev finalTemps : ℕ → Progress → Bool → Mixing → FinalTemps
+  finalTemps h s on x = afterMixing (cylinderOf m) (volumesOf m) (pointsOf a h) (heaterLayer m h) (offersFrom h on) (s .temps) (s .charged) x
 
   -- the turn by what its mixing came to
   abbrev turnAfter : ℕ → Progress → Mixing → Turn
-  turnAfter h s x = turnFrom h s (immersion h) (afterMixing (cylinderOf m) (volumesOf m) (immersion h) (pointsOf a h) (s .temps) (s .charged) (runs h s) x)
+  turnAfter h s x = turnFrom h s (immersion h) (afterHeat (cylinderOf m) (immersion h) (pointsOf a h) (runs h s) (finalTemps h s (runs h s) x))
 
   turn-after : (h : ℕ) (s : Progress) → h < m .heaters → turnOf (fixedOf m) a h s ≡ turnAfter h s (mixingOf h s)
-  unfolding turn
+  unfolding turn calcFinalTemps
   turn-after h s l = turn-is h s l
 
   mixing-sorted : (h : ℕ) (s : Progress) → Sorted (m .layers) (mixingOf h s)
@@ -141,7 +152,7 @@ module _ (m : TankDesign) (a : Step) where
 
   -- what it heats, and then mixes
   abbrev heatedOf : ℕ → Progress → List Float
-  heatedOf h s = heated (cylinderOf m) (volumesOf m) (offer (runs h s) (maxEnergy m h) (heaterLayer m h)) (s .temps)
+  heatedOf h s = heated (cylinderOf m) (volumesOf m) (offersFrom h (runs h s)) (s .temps)
 
   mixing-is : (h : ℕ) (s : Progress) → MixingOf (m .layers) (volumesOf m) (heatedOf h s) (mixingOf h s)
   unfolding heatAndMix
@@ -156,7 +167,7 @@ module _ (m : TankDesign) (a : Step) where
       ran-by = rw (← f) (switched-on (pointsOf a h) (getD (s .temps) (thermostatLayer m h) nan) (getD (s .flags) h false))
 
       go : (x : Mixing) → x ≡ mixingOf h s → TurnOf m a fs h s (turnAfter h s x)
-      go (sorted after k) e = unfold afterMixing adjustedInput input in (record {
+      go (sorted after k) e = unfold afterHeat afterMixing adjustedInput in (record {
         heater = refl;
         points = refl;
         before = refl;
@@ -178,7 +189,7 @@ module _ (m : TankDesign) (a : Step) where
         );
         finish = refl;
       })
-      go unsorted e = unfold afterMixing in (record {
+      go unsorted e = unfold afterHeat afterMixing in (record {
         heater = refl;
         points = refl;
         before = refl;
@@ -200,18 +211,19 @@ module _ (m : TankDesign) (a : Step) where
 
   module _ (timestep : T (isPositive (m .timestep))) where
     right-after : (h : ℕ) (s : Progress) (x : Mixing) → Fair h → Right (turnAfter h s x)
-    unfolding afterMixing adjustedInput input
+    unfolding afterHeat afterMixing adjustedInput
     right-after h s unsorted f p = absurd p
-    right-after h s (sorted after k) f p = (λ n. go (runs h s) n, supply-at-most _ (ratedOf m h) (m .timestep) (f .0) timestep)
+    right-after h s (sorted after k) f p = (λ n. go (runs h s) n, supply-at-most (ratedOf m h) (m .timestep) (f .0) timestep _)
       where
-        go : (on : Bool) → T (not on) → T (eq (afterMixing (cylinderOf m) (volumesOf m) (immersion h) (pointsOf a h) (s .temps) (s .charged) on (sorted after k) .supplied) zero-f)
+        go : (on : Bool) → T (not on)
+            → T (eq (afterHeat (cylinderOf m) (immersion h) (pointsOf a h) on (finalTemps h s on (sorted after k)) .supplied) zero-f)
         go true n = absurd n
-        go false n = unfold afterMixing adjustedInput input in (supply-off (m .layers) (heaterLayer m h) (surplus (cylinderOf m) (volumesOf m) (pointsOf a h) (s .temps) after (s .charged) (heaterLayer m h)) (ratedOf m h) (m .timestep) (f .0) timestep)
+        go false n = unfold afterHeat afterMixing adjustedInput in (supply-off (ratedOf m h) (m .timestep) (f .0) timestep (m .layers) (heaterLayer m h) _ _)
 
     flags-set : (h : ℕ) (s : Progress) (after : List Float) (k : ℕ)
         → let u = turnAfter h s (sorted after k) in
         afterTurn u s .flags ≡ set (s .flags) h (latched (began u) (ended u) (getD (s .flags) h false))
-    unfolding afterTurn afterMixing
+    unfolding afterTurn afterHeat afterMixing
     flags-set h s after k = ap (λ (b : Bool). set (s .flags) h b) (switches-latch _ _ _ _)
 
     pub turn-meets : (h : ℕ) (s : Progress) → Fair h → length (s .flags) ≡ maxHeaters → length (s .lines) ≡ maxHeaters → Meets (m .layers) Right (Law (h ∷ []) s) (heaterTurn (fixedOf m) a h s)
@@ -221,10 +233,10 @@ module _ (m : TankDesign) (a : Step) where
         go : (x : Mixing) → Sorted (m .layers) x
             → let u = turnAfter h s x in
             Meets (m .layers) Right (Law (h ∷ []) s) (record { events = []; turns = u ∷ []; end = endBy (turnNumber (cylinderOf m) (u .turned)) (afterTurn u s) })
-        go unsorted o = unfold afterMixing turnNumber endBy in (tt, (refl, tt), (λ p. absurd p, tt), lit< tt)
+        go unsorted o = unfold afterHeat afterMixing turnNumber endBy in (tt, (refl, tt), (λ p. absurd p, tt), lit< tt)
         go (sorted after r) o = (
           tt,
-          (unfold afterMixing in o, tt),
+          (unfold afterHeat afterMixing in o, tt),
           (right-after h s (sorted after r) f, tt),
           end-reach (Law (h ∷ []) s (turnAfter h s (sorted after r) ∷ [])) _ _
               (λ z. first-law s (turnAfter h s (sorted after r)) (afterTurn (turnAfter h s (sorted after r)) s) (omega (arith, l, f .2)) (omega (arith, k, f .2)) (flags-set h s after r) (unfold afterTurn in refl)),

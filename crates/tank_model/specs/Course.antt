@@ -19,8 +19,9 @@ use Rattle.draw_off.specs.declared.cold.Feed.{Feed}
 use Rattle.draw_off.specs.Draw.{extract, volumeUsed}
 use Rattle.draw_off.specs.Refill.{refill}
 use Rattle.draw_off.specs.Event.{Event, unmixed, mixed}
-use Rattle.heating.specs.Heat.{offer, heated}
+use Rattle.heating.specs.Heat.{offersTo, heated}
 use Rattle.heating.specs.Losses.{tempsAfter, chargedAfter, surplus, losses}
+use Rattle.immersion_heater.specs.Offer.{offer}
 use Rattle.tank_model.specs.declared.TankDesign.{TankDesign}
 use Rattle.tank_model.specs.declared.Step.{Step}
 use Rattle.tank_model.specs.declared.HeaterLine.{HeaterLine}
@@ -98,9 +99,13 @@ EventDraws m e s' n = FirstOf ((9, e .mixing ≡ mixed unsorted) ∷ (10, EventN
 
 -- ---- one turn
 
+-- what each layer is offered
+abbrev pub offersOf : TankDesign → ℕ → Turn → ℕ → Float
+offersOf m h u = offersTo (heaterLayer m h) (offer (u .turned .ran) (maxEnergy m h))
+
 -- Sum2 of all offers
 abbrev pub inputOf : TankDesign → ℕ → Turn → Float
-inputOf m h u = sum2 (tabulate (offer (u .turned .ran) (maxEnergy m h) (heaterLayer m h)) (m .layers) 0)
+inputOf m h u = sum2 (tabulate (offersOf m h u) (m .layers) 0)
 
 -- what a turn came to after a mixing that left `after`. Its flag is on if the heater ran and the upper set point is neither missing nor reached on the layers
 -- that it left
@@ -129,7 +134,7 @@ pub record TurnOf (m : TankDesign) (a : Step) (fs : List Bool) (h : ℕ) (s : Pr
   pub start : u .start ≡ getD (s .temps) (thermostatLayer m h) nan
   pub ran : T (u .turned .ran) ↔ (HasUpper (u .points) × (AtOrUnderLower (u .points) (u .start) ⊎ T (getD fs h false)))
   pub mixing : MixingOf (m .layers) (volumesOf m)
-      (heated (cylinderOf m) (volumesOf m) (offer (u .turned .ran) (maxEnergy m h) (heaterLayer m h)) (s .temps))
+      (heated (cylinderOf m) (volumesOf m) (offersOf m h u) (s .temps))
       (u .turned .mixing)
   pub after-mixing : AfterMixing m h s u (u .turned .mixing)
   pub finish : u .finish ≡ getD (u .turned .temps) (thermostatLayer m h) nan

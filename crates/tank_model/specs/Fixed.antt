@@ -8,7 +8,7 @@ use Rattle.numeric.specs.Tabulate.{tabulate}
 use Rattle.numeric.specs.Whole.{layerOf}
 use Rattle.cylinder.specs.declared.Cylinder.{Cylinder}
 use Rattle.cylinder.specs.Layers.{layerVolumes}
-use Rattle.heating.specs.declared.turn.Immersion.{Immersion}
+use Rattle.immersion_heater.specs.declared.turn.Immersion.{Immersion}
 use Rattle.tank_model.specs.declared.Heater.{Heater}
 use Rattle.tank_model.specs.declared.TankDesign.{TankDesign}
 

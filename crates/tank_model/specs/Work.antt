@@ -15,7 +15,7 @@ use Rattle.draw_off.specs.declared.Totals.{Totals}
 use Rattle.draw_off.specs.declared.cold.Feed.{Feed}
 use Rattle.draw_off.specs.Event.{Event, drawAll}
 use Rattle.heating.specs.declared.SetPoints.{SetPoints}
-use Rattle.heating.specs.Turn.{Turned, turn, turnNumber}
+use Rattle.immersion_heater.specs.Turn.{Turned, turn, turnNumber}
 use Rattle.working_order.specs.Order.{maxHeaters}
 use Rattle.tank_model.specs.declared.HeaterLine.{HeaterLine}
 use Rattle.tank_model.specs.declared.Step.{Step}

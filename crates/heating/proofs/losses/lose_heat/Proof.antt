@@ -108,11 +108,12 @@ returns : tie.Need-returns Inv-loop μ-loop
 unfolding losses tempsAfter chargedAfter
 returns c =
     let at = c .before .before in
-    let l = c .before .loop-test .left in (
-      rw (sum2-iterate, c .total-of .ensures, rest-end _ _ _ _ _ l (at .loop .inv .2), at .before .start .ensures),
-      updating-end _ _ _ _ _ l (at .loop .inv .0),
-      updating-end _ _ _ _ _ l (at .loop .inv .1),
-    )
+    let l = c .before .loop-test .left in
+    record {
+      loses = rw (sum2-iterate, c .total-of .ensures, rest-end _ _ _ _ _ l (at .loop .inv .2), at .before .start .ensures);
+      leaves = updating-end _ _ _ _ _ l (at .loop .inv .0);
+      charged-with = updating-end _ _ _ _ _ l (at .loop .inv .1);
+    }
 
 pub lose-heat-spec : {M : Type 1} → statement M
 lose-heat-spec =
