@@ -24,6 +24,7 @@ use Rattle.heating.specs.Turn as Turn
 use Rattle.working_order.specs.Order as Sorting
 use Rattle.tank_model.specs.Fixed as Fixed
 use Rattle.tank_model.specs.Order as Order
+use Rattle.tank_model.specs.FirstRefusal as FirstRefusal
 use Rattle.tank_model.specs.Checks as Checks
 use Rattle.tank_model.specs.Work as Work
 use Rattle.storage_tank.specs.Calls as Calls
@@ -42,7 +43,7 @@ unfolding I.round I.ofInt I.ofBits I.add I.sub I.mul I.div I.neg I.lt I.le I.eq 
     Losses.clearlyAbove Losses.overUpper Losses.standbyCoefficient Losses.warmed Losses.countedTemp Losses.standingLoss Losses.loss Losses.lossAt Losses.losses
     Losses.limitedTemp Losses.tempsAfter Losses.chargedAfter Losses.surplusTerm Losses.surplus Losses.adjusted
     Supply.demand Supply.supply Turn.input Turn.heatAndMix Turn.adjustedInput Turn.afterMixing Turn.turn Turn.turnFinite Turn.turnNumber
-    Fixed.placedHeaters Sorting.insert Sorting.insertionSort Sorting.risingOrder Order.workingOrder Checks.firstRefusal Checks.fairPoints
+    Fixed.placedHeaters Sorting.insert Sorting.insertionSort Sorting.risingOrder Order.workingOrder FirstRefusal.firstRefusal Checks.pointsCheck
     Checks.makeRefusal Checks.stepRefusal
     Work.resume Work.andThen Work.endBy Work.events Work.averageOf Work.withAverage Work.turnOf Work.afterTurn
     Work.heaterTurn Work.turns Work.opening Work.recoverable Work.closed Work.begin Work.work
