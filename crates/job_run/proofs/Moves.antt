@@ -61,7 +61,7 @@ module _ (j : Job) where
     heater-goes h =
         let d = withHeater (j .design) h in
         let n = heatersCheck (j .design .heaters + 1) in
-        either Goes (eqb n 0) (madeTurn j next d) (refusedTurn j n) (made-goes d) (inl (refused-ends n))
+        either Goes (eqb n 0) (madeOutcome j next d) (refusedOutcome j n) (made-goes d) (inl (refused-ends n))
 
     step-goes : (a : Step) → Goes (stepOutcome j next a)
     unfolding stepOutcome

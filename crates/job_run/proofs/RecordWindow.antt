@@ -57,7 +57,7 @@ module _ (j : Job) where
     heater-whole h =
         let d = withHeater (j .design) h in
         let n = heatersCheck (j .design .heaters + 1) in
-        alike (eqb n 0) (madeTurn (inWhole j) (offsetOf j + (next - j .at)) d) (refusedTurn (inWhole j) n) (madeTurn j next d) (refusedTurn j n) (made-whole d) (refused-whole n)
+        alike (eqb n 0) (madeOutcome (inWhole j) (offsetOf j + (next - j .at)) d) (refusedOutcome (inWhole j) n) (madeOutcome j next d) (refusedOutcome j n) (made-whole d) (refused-whole n)
 
     step-whole : (a : Step) → stepOutcome (inWhole j) (offsetOf j + (next - j .at)) a ≡ outcomeInWhole (stepOutcome j next a)
     unfolding stepOutcome

@@ -104,19 +104,19 @@ unfoldable pub refusedOutcome : Job → ℕ → Outcome
 refusedOutcome j number = record { job = endedJob j; text = refusalLine number (offsetOf j) }
 
 -- a number other than 0 is a refusal
-abbrev pub unlessRefused : Job → ℕ → Turn → Turn
-unlessRefused j number t = cond (eqb number 0) t (refusedTurn j number)
+abbrev pub unlessRefused : Job → ℕ → Outcome → Outcome
+unlessRefused j number t = cond (eqb number 0) t (refusedOutcome j number)
 
 abbrev pub withTank : Job → ℕ → TankDesign → StorageTank → Job
 withTank j next d t = record { before = j .before; at = next; ended = j .ended; «has_tank» = true; steps = j .steps; design = d; tank = t; report = j .report }
 
 -- the tank made, or the number of make's refusal
-unfoldable pub madeTurn : Job → ℕ → TankDesign → Turn
-madeTurn j next d = let m = made d in unlessRefused j (m .number) (record { job = withTank j next d (m .tank); text = [] })
+unfoldable pub madeOutcome : Job → ℕ → TankDesign → Outcome
+madeOutcome j next d = let m = made d in unlessRefused j (m .number) (record { job = withTank j next d (m .tank); text = [] })
 
 -- 2 and 5 come at the heater's record, with the newcomer in: 2 before it is fitted, 5 where the tank is made
-unfoldable pub heaterTurn : Job → ℕ → Heater → Turn
-heaterTurn j next h = unlessRefused j (heatersCheck (j .design .heaters + 1)) (madeTurn j next (withHeater (j .design) h))
+unfoldable pub heaterOutcome : Job → ℕ → Heater → Outcome
+heaterOutcome j next h = unlessRefused j (heatersCheck (j .design .heaters + 1)) (madeOutcome j next (withHeater (j .design) h))
 
 abbrev pub afterStep : Job → ℕ → StorageTank → Report → Job
 afterStep j next t r = record { before = j .before; at = next; ended = j .ended; «has_tank» = j .«has_tank»; steps = j .steps + 1; design = j .design; tank = t; report = r }
