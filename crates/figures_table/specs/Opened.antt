@@ -27,6 +27,7 @@ use Rattle.immersion_heater.specs.Turn as Turn
 use Rattle.working_order.specs.Order as Sorting
 use Rattle.tank_model.specs.Fixed as Fixed
 use Rattle.tank_model.specs.Order as Order
+use Rattle.tank_model.specs.FirstRefusal as FirstRefusal
 use Rattle.tank_model.specs.Checks as Checks
 use Rattle.tank_model.specs.Work as Work
 use Rattle.storage_tank.specs.Calls as Calls
@@ -46,7 +47,7 @@ unfolding I.round I.ofInt I.ofBits I.add I.sub I.mul I.div I.neg I.lt I.le I.eq 
     Losses.limitedTemp Losses.tempsAfter Losses.chargedAfter Losses.surplusTerm Losses.surplus Losses.adjusted
     FinalTemps.heatAndMix FinalTemps.adjustedInput FinalTemps.afterMixing FinalTemps.calcFinalTemps Offer.offer
     Supply.demand Supply.supply Turn.afterHeat Turn.turn Turn.turnFinite Turn.turnNumber
-    Fixed.placedHeaters Sorting.insert Sorting.insertionSort Sorting.risingOrder Order.workingOrder Checks.firstRefusal Checks.fairPoints
+    Fixed.placedHeaters Sorting.insert Sorting.insertionSort Sorting.risingOrder Order.workingOrder FirstRefusal.firstRefusal Checks.pointsCheck
     Checks.makeRefusal Checks.stepRefusal
     Work.resume Work.andThen Work.endBy Work.events Work.averageOf Work.withAverage Work.turnOf Work.afterTurn
     Work.heaterTurn Work.turns Work.opening Work.recoverable Work.closed Work.begin Work.work

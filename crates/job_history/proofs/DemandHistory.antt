@@ -8,7 +8,7 @@ use Rattle.tank_model.specs.declared.Step.{Step}
 use Rattle.tank_model.specs.Fixed.{Fixed, State, fixedOf}
 use Rattle.tank_model.specs.Work.{End, refused, done, Work, work}
 use Rattle.tank_model.specs.History.{designRefusal, start, carry, workOf, run, history}
-use Rattle.tank_model.proofs.Works.{made-heaters}
+use Rattle.tank_model.proofs.Passes.{made-heaters}
 use Rattle.storage_tank.specs.declared.StorageTank.{StorageTank}
 use Rattle.storage_tank.specs.declared.Report.{Report}
 use Rattle.storage_tank.specs.Tank.{fixedIn, stateIn}

@@ -6,11 +6,11 @@ use mathlib.Core.List.{List, []}
 use mathlib.Core.Logic.{_⊎_, inl, inr}
 use mathlib.Core.Path.{_≡_, refl}
 use lib.ListN.{length}
-use lib.Dec.{ltb, eqb}
-use Rattle.working_order.specs.Order.{maxHeaters}
+use lib.Dec.{eqb}
 use Rattle.tank_model.specs.declared.Heater.{Heater}
 use Rattle.tank_model.specs.declared.TankDesign.{TankDesign}
 use Rattle.tank_model.specs.declared.Step.{Step}
+use Rattle.tank_model.specs.Checks.{heatersCheck}
 use Rattle.storage_tank.specs.Calls.{made}
 use Rattle.job_reader.specs.declared.Record.{Record}
 use Rattle.job_reader.specs.declared.Record.the-variants.{Tank, Heater as HeaterCase, Step as StepCase, Refused}
@@ -60,7 +60,8 @@ module _ (j : Job) where
     unfolding heaterOutcome
     heater-goes h =
         let d = withHeater (j .design) h in
-        either Goes (ltb (j .design .heaters) maxHeaters) (madeOutcome j next d) (refusedOutcome j 2) (made-goes d) (inl (refused-ends 2))
+        let n = heatersCheck (j .design .heaters + 1) in
+        either Goes (eqb n 0) (madeOutcome j next d) (refusedOutcome j n) (made-goes d) (inl (refused-ends n))
 
     step-goes : (a : Step) → Goes (stepOutcome j next a)
     unfolding stepOutcome

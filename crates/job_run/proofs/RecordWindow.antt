@@ -6,12 +6,12 @@ use mathlib.Core.List.{List, []}
 use mathlib.Core.Logic.{_⊎_, inl, inr}
 use mathlib.Core.Path.{_≡_, refl}
 use borrow.Author.Tests.{eqb-true, eqb-false, eq-eqb, ne-eqb}
-use lib.Dec.{ltb, eqb}
+use lib.Dec.{eqb}
 use lib.ListN.{length}
-use Rattle.working_order.specs.Order.{maxHeaters}
 use Rattle.tank_model.specs.declared.Heater.{Heater}
 use Rattle.tank_model.specs.declared.TankDesign.{TankDesign}
 use Rattle.tank_model.specs.declared.Step.{Step}
+use Rattle.tank_model.specs.Checks.{heatersCheck}
 use Rattle.storage_tank.specs.Calls.{made}
 use Rattle.job_reader.specs.declared.Record.{Record}
 use Rattle.job_reader.specs.declared.Record.the-variants.{Tank, Heater as HeaterCase, Step as StepCase, Refused}
@@ -56,7 +56,8 @@ module _ (j : Job) where
     unfolding heaterOutcome
     heater-whole h =
         let d = withHeater (j .design) h in
-        alike (ltb (j .design .heaters) maxHeaters) (madeOutcome (inWhole j) (offsetOf j + (next - j .at)) d) (refusedOutcome (inWhole j) 2) (madeOutcome j next d) (refusedOutcome j 2) (made-whole d) (refused-whole 2)
+        let n = heatersCheck (j .design .heaters + 1) in
+        alike (eqb n 0) (madeOutcome (inWhole j) (offsetOf j + (next - j .at)) d) (refusedOutcome (inWhole j) n) (madeOutcome j next d) (refusedOutcome j n) (made-whole d) (refused-whole n)
 
     step-whole : (a : Step) → stepOutcome (inWhole j) (offsetOf j + (next - j .at)) a ≡ outcomeInWhole (stepOutcome j next a)
     unfolding stepOutcome

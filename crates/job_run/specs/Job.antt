@@ -3,7 +3,7 @@ use Prim.Native.Nat.{ℕ, zero, suc, _+_, _*_, _≤_, _<_}
 use mathlib.Core.Bool.{Bool, true, false, cond, not, _&&_}
 use mathlib.Core.Path.{_≡_}
 use mathlib.Core.List.{List, [], _++_}
-use lib.Dec.{ltb, eqb}
+use lib.Dec.{eqb}
 use lib.ListN.{length, set, replicate}
 use lib.Ieee.{Float}
 use Rattle.numeric.specs.Double.{zero-f}
@@ -12,6 +12,7 @@ use Rattle.tank_model.specs.declared.Heater.{Heater}
 use Rattle.tank_model.specs.declared.TankDesign.{TankDesign}
 use Rattle.tank_model.specs.declared.Setting.{Setting}
 use Rattle.tank_model.specs.declared.Step.{Step}
+use Rattle.tank_model.specs.Checks.{heatersCheck}
 use Rattle.tank_model.specs.Work.{zeroLine}
 use Rattle.storage_tank.specs.declared.StorageTank.{StorageTank}
 use Rattle.storage_tank.specs.declared.Report.{Report}
@@ -102,18 +103,20 @@ Countable j = (16 * j .steps ≤ offsetOf j) × (offsetOf j < 922337203685477580
 unfoldable pub refusedOutcome : Job → ℕ → Outcome
 refusedOutcome j number = record { job = endedJob j; text = refusalLine number (offsetOf j) }
 
+-- a number other than 0 is a refusal
+abbrev pub unlessRefused : Job → ℕ → Outcome → Outcome
+unlessRefused j number t = cond (eqb number 0) t (refusedOutcome j number)
+
 abbrev pub withTank : Job → ℕ → TankDesign → StorageTank → Job
 withTank j next d t = record { before = j .before; at = next; ended = j .ended; «has_tank» = true; steps = j .steps; design = d; tank = t; report = j .report }
 
 -- the tank made, or the number of make's refusal
 unfoldable pub madeOutcome : Job → ℕ → TankDesign → Outcome
-madeOutcome j next d =
-    let m = made d in
-    cond (eqb (m .number) 0) (record { job = withTank j next d (m .tank); text = [] }) (refusedOutcome j (m .number))
+madeOutcome j next d = let m = made d in unlessRefused j (m .number) (record { job = withTank j next d (m .tank); text = [] })
 
--- 2 and 5 come at the heater's record
+-- 2 and 5 come at the heater's record, with the newcomer in: 2 before it is fitted, 5 where the tank is made
 unfoldable pub heaterOutcome : Job → ℕ → Heater → Outcome
-heaterOutcome j next h = cond (ltb (j .design .heaters) maxHeaters) (madeOutcome j next (withHeater (j .design) h)) (refusedOutcome j 2)
+heaterOutcome j next h = unlessRefused j (heatersCheck (j .design .heaters + 1)) (madeOutcome j next (withHeater (j .design) h))
 
 abbrev pub afterStep : Job → ℕ → StorageTank → Report → Job
 afterStep j next t r = record { before = j .before; at = next; ended = j .ended; «has_tank» = j .«has_tank»; steps = j .steps + 1; design = j .design; tank = t; report = r }

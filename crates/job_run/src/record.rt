@@ -8,7 +8,6 @@ use storage_tank::StorageTank;
 use tank_model::Heater;
 use tank_model::Step;
 use tank_model::TankDesign;
-use working_order::MAX_HEATERS;
 
 // The job ends, and nothing is printed.
 fn end_job(j: Job) -> Job
@@ -53,8 +52,9 @@ pub fn add_heater(buf: &mut [u8], j: Job, next: usize, h: Heater) -> Printed
     ensures { λ r. ⌜ Gives (heaterOutcome j next h) (now (buf .entry)) (now (buf .exit)) r ⌝ }
 {
     let d = j.design;
-    if d.heaters >= MAX_HEATERS {
-        return refuse(buf, j, 2);
+    let number = tank_arrays::checks::heaters_check(d.heaters, 1);
+    if number != 0 {
+        return refuse(buf, j, number);
     }
     let design = crate::start::with_heater(d, h);
     make_tank(buf, j, next, design)

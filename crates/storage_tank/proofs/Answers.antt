@@ -17,7 +17,7 @@ use Rattle.tank_model.specs.declared.HeaterLine.{HeaterLine}
 use Rattle.tank_model.specs.Fixed.{fixedOf}
 use Rattle.tank_model.specs.Checks.{makeRefusal}
 use Rattle.tank_model.specs.Work.{Progress, done, work}
-use Rattle.tank_model.proofs.Works.{tank-passes}
+use Rattle.tank_model.proofs.Passes.{tank-passes}
 use Rattle.tank_arrays.specs.Arrays.{heatersOf, thermostatsOf, fixedWith}
 use Rattle.tank_arrays.proofs.LentArrays.{heaters-back}
 use Rattle.step_work.specs.declared.work.WorkAnswer.{WorkAnswer}

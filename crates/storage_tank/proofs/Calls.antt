@@ -17,10 +17,11 @@ use Rattle.cylinder.specs.Layers.{allFinite}
 use Rattle.tank_model.specs.declared.TankDesign.{TankDesign}
 use Rattle.tank_model.specs.declared.Step.{Step}
 use Rattle.tank_model.specs.Fixed.{Fixed, fixedOf}
-use Rattle.tank_model.specs.Checks.{firstRefusal, tankChecks, makeRefusal}
+use Rattle.tank_model.specs.FirstRefusal.{firstRefusal}
+use Rattle.tank_model.specs.Checks.{tankChecks, makeRefusal}
 use Rattle.tank_model.specs.Work.{End, refused, done, work}
 use Rattle.tank_model.specs.History.{designRefusal, start}
-use Rattle.tank_model.proofs.Works.{made-heaters, tank-passes}
+use Rattle.tank_model.proofs.Passes.{made-heaters, tank-passes}
 use Rattle.storage_tank.specs.declared.StorageTank.{StorageTank}
 use Rattle.storage_tank.specs.declared.Report.{Report}
 use Rattle.storage_tank.specs.Tank.{fixedIn, stateIn}

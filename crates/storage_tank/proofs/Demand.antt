@@ -17,14 +17,15 @@ use Rattle.tank_model.specs.declared.Heater.{Heater}
 use Rattle.tank_model.specs.declared.HeaterLine.{HeaterLine}
 use Rattle.tank_model.specs.declared.TankDesign.{TankDesign}
 use Rattle.tank_model.specs.Fixed.{Placed, Fixed, State, placed, noHeater, placedHeaters, fixedBy, fixedOf}
-use Rattle.tank_model.specs.Checks.{firstRefusal, stepRefusal}
+use Rattle.tank_model.specs.FirstRefusal.{firstRefusal}
+use Rattle.tank_model.specs.Checks.{stepRefusal}
 use Rattle.tank_model.specs.Work.{Progress, Turn, End, refused, done, Work, zeroLine, recoverable, begin, work}
 use Rattle.tank_model.specs.History.{Call, step, designRefusal, start, carry, carried, workOf, run, history}
 use Rattle.tank_model.specs.Members.{All}
 use Rattle.tank_model.specs.Course.{accepted, passed, LineTells}
 use Rattle.tank_model.specs.HistoryDemand.{RightlySupplied, AllRightlySupplied, AllTold, noWork, OnSince, HistoryDemand}
 use Rattle.tank_model.proofs.Members.{all-map, all-both}
-use Rattle.tank_model.proofs.Works.{made-heaters}
+use Rattle.tank_model.proofs.Passes.{made-heaters}
 use Rattle.tank_model.proofs.HistoryDemand.{history-demand}
 use Rattle.storage_tank.specs.declared.StorageTank.{StorageTank}
 use Rattle.storage_tank.specs.declared.Report.{Report}

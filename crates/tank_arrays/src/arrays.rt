@@ -14,9 +14,9 @@ use tank_model::Setting;
 use working_order::MAX_HEATERS;
 
 // A number for each heater, three of them one after the other; and two of them.
-pub const THREE_EACH: usize = 24;
+pub const THREE_EACH: usize = 3 * MAX_HEATERS;
 
-pub const TWO_EACH: usize = 16;
+pub const TWO_EACH: usize = 2 * MAX_HEATERS;
 
 // The heater h: rated powers stand first, then positions, then thermostat positions.
 pub fn heater_at(heaters: &[f64; THREE_EACH], thermostats: &[bool; MAX_HEATERS], h: usize) -> Heater
@@ -25,9 +25,9 @@ pub fn heater_at(heaters: &[f64; THREE_EACH], thermostats: &[bool; MAX_HEATERS],
 {
     Heater {
         rated: heaters[h],
-        position: heaters[8 + h],
+        position: heaters[MAX_HEATERS + h],
         has_thermostat: thermostats[h],
-        thermostat: heaters[16 + h],
+        thermostat: heaters[TWO_EACH + h],
     }
 }
 
@@ -52,7 +52,12 @@ pub fn points_at(present: &[bool; TWO_EACH], points: &[f64; TWO_EACH], h: usize)
     requires { ⌜ h < maxHeaters ⌝ }
     ensures { λ r. ⌜ r ≡ getD (settingsIn (now (present .entry)) (now (points .entry))) h noSetting .points ⌝ }
 {
-    points_in(present[h], present[8 + h], points[h], points[8 + h])
+    points_in(
+        present[h],
+        present[MAX_HEATERS + h],
+        points[h],
+        points[MAX_HEATERS + h],
+    )
 }
 
 // What a turn reports of the heater h: adjusted inputs stand first, then energies supplied, then losses.
@@ -67,8 +72,8 @@ pub fn write_line(
     ensures { λ r. ⌜ (linesIn (now (figures .exit)) (now (flags .exit)) (now (rounds .exit)) ≡ set (linesIn (now (figures .entry)) (now (flags .entry)) (now (rounds .entry))) h x) × HoldsLines (now (figures .exit)) (now (flags .exit)) (now (rounds .exit)) ⌝ }
 {
     figures[h] = x.adjusted;
-    figures[8 + h] = x.supplied;
-    figures[16 + h] = x.losses;
+    figures[MAX_HEATERS + h] = x.supplied;
+    figures[TWO_EACH + h] = x.losses;
     flags[h] = x.flag;
     rounds[h] = x.rounds;
 }
@@ -253,8 +258,8 @@ fn line_in(
     HeaterLine {
         flag: flags[h],
         adjusted: xs[h],
-        supplied: xs[8 + h],
-        losses: xs[16 + h],
+        supplied: xs[MAX_HEATERS + h],
+        losses: xs[TWO_EACH + h],
         rounds: rounds[h],
     }
 }

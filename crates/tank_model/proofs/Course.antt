@@ -28,7 +28,7 @@ use Rattle.tank_model.proofs.Order.{heaters-many, order-below, order-on
 use Rattle.tank_model.proofs.Mixings.{mixing-of}
 use Rattle.tank_model.proofs.Steps.{Reach, end-reach}
 use Rattle.tank_model.proofs.TurnFacts.{turn-of}
-use Rattle.tank_model.proofs.Works.{tank-passes}
+use Rattle.tank_model.proofs.Passes.{tank-passes}
 use Rattle.tank_model.proofs.Refusals.{step-refused-as}
 use Rattle.tank_model.proofs.Parts.{afterEvent, event-leaves, event-draws, turn-leaves, turn-draws, opens, averages, closes}
 

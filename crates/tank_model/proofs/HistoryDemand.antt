@@ -31,7 +31,8 @@ use Rattle.tank_model.proofs.Refusals.{make-refused-as}
 use Rattle.tank_model.proofs.Parts.{line-tells}
 use Rattle.tank_model.proofs.Steps.{Reach, Meets, Law, ofHeater, began, ended, nothing-latched}
 use Rattle.tank_model.proofs.TurnFacts.{Right, lower-says, reached-says}
-use Rattle.tank_model.proofs.Works.{tank-passes, work-meets}
+use Rattle.tank_model.proofs.Passes.{tank-passes}
+use Rattle.tank_model.proofs.Works.{work-meets}
 use Rattle.tank_model.proofs.Course.{work-course}
 
 -- ---- 'in an accepted step the heater's turn ..', as a test

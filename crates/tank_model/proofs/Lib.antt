@@ -4,6 +4,7 @@ pub mod Members
 pub mod Order
 pub mod Sentences
 pub mod Refusals
+pub mod Passes
 pub mod Mixings
 pub mod Steps
 pub mod TurnFacts

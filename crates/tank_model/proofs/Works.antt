@@ -1,17 +1,12 @@
 -- Proves of a whole step's work what Steps.antt states (01, Step): its mixings, its supplies, and the flags and lines that it leaves.
 use mathlib.Core.Path.{_≡_, refl, sym, _∙_, subst}
 use mathlib.Core.List.{List, [], _∷_, _++_, append-nil}
-use mathlib.Core.Bool.{Bool, true, false, _&&_}
+use mathlib.Core.Bool.{Bool, true, false}
 use Prim.Native.Nat.{ℕ, zero, suc, _+_, _<_, _≤_}
 use native.Mathlib.Omega.{arith}
-use lib.Dec.{T, leb, leb→le, lit<}
+use lib.Dec.{T, leb→le}
 use lib.ListN.{length}
 use lib.Ieee.{Float}
-use lib.Ieee.Scale.{finite}
-use lib.Ieee.Bits.{is-true}
-use lib.Ieee.Fits.{and-l, and-r}
-use Rattle.numeric.specs.Holds.{holds, holds-at}
-use Rattle.mixing.specs.Limits.{maxLayers}
 use Rattle.mixing.specs.Rearrange.{sorted, unsorted}
 use Rattle.cylinder.specs.Layers.{allFinite}
 use Rattle.draw_off.specs.declared.Totals.{Totals}
@@ -22,57 +17,16 @@ use Rattle.tank_model.specs.declared.TankDesign.{TankDesign}
 use Rattle.tank_model.specs.declared.Step.{Step}
 use Rattle.tank_model.specs.Fixed.{Placed, Fixed, State, heaterOf, fixedOf}
 use Rattle.tank_model.specs.Order.{workingOrder}
-use Rattle.tank_model.specs.Checks.{firstRefusal, unless, isPositive, notNegative, isPosition, fairHeater, tankChecks, stepChecks, makeRefusal, stepRefusal}
+use Rattle.tank_model.specs.Checks.{isPositive, notNegative, stepChecks, stepRefusal}
 use Rattle.tank_model.specs.Work.{Progress, Turn, refused, Work, andThen, endBy, events, feedIn, wantedVolumes, withAverage, heaterTurn, turns, allTurns, opening, begin, work}
 use Rattle.tank_model.specs.Members.{All, Distinct}
 use Rattle.tank_model.specs.Arguments.{cylinderOf}
 use Rattle.tank_model.specs.HistoryDemand.{EventOrderedOrNine}
 use Rattle.tank_model.proofs.Members.{all-map}
 use Rattle.tank_model.proofs.Order.{heater-is, heaters-many, order-below, order-once}
+use Rattle.tank_model.proofs.Passes.{tank-passes}
 use Rattle.tank_model.proofs.Steps.{Sorted, rearrange-sorted, end-reach, Meets, then-meets, meets-map, closing-meets, Law, both, law-still}
 use Rattle.tank_model.proofs.TurnFacts.{Fair, Right, turn-meets}
-
--- ---- the checks
-
-pub unless-passes : (b : Bool) (n : ℕ) (ns : List ℕ) → 0 < n → firstRefusal (unless b n ∷ ns) ≡ 0 → T b × (firstRefusal ns ≡ 0)
-unfolding firstRefusal
-unless-passes true n ns l e = (tt, e)
-unless-passes false zero ns l e = absurd (omega arith)
-unless-passes false (suc n) ns l e = absurd (omega arith)
-
--- what the checks 2 to 5 say
-pub record Passes (f : Fixed) (temps : Bool) : Type 0 where
-  pub layers : T (leb 1 (f .cylinder .layers) && leb (f .cylinder .layers) maxLayers)
-  pub heaters : T (leb (length (f .heaters)) maxHeaters)
-  pub timestep : T (isPositive (f .cylinder .timestep))
-  pub temperatures : T temps
-  pub fair : (h : ℕ) → h < length (f .heaters) → T (fairHeater (heaterOf f h))
-
-pub tank-passes : (f : Fixed) (temps : Bool) (ns : List ℕ) → firstRefusal (tankChecks f temps ++ ns) ≡ 0 → Passes f temps
-tank-passes f temps ns e =
-    let c = f .cylinder in
-    let heaters = holds (λ (h : ℕ). fairHeater (heaterOf f h)) (length (f .heaters)) 0 in
-    let numbers = isPositive (c .volume) && isPositive (c .rho) && isPositive (c .cp) in
-    let standing = notNegative (c .standby) && finite (c .ambient) in
-    let c1 = unless-passes (leb 1 (c .layers) && leb (c .layers) maxLayers) 1 _ (lit< tt) e in
-    let c2 = unless-passes (leb (length (f .heaters)) maxHeaters) 2 _ (lit< tt) (c1 .1) in
-    let c3 = unless-passes (numbers && isPositive (c .timestep)) 3 _ (lit< tt) (c2 .1) in
-    let c4 = unless-passes (standing && temps) 4 _ (lit< tt) (c3 .1) in
-    let c5 = unless-passes heaters 5 ns (lit< tt) (c4 .1) in
-    record {
-      layers = c1 .0;
-      heaters = c2 .0;
-      timestep = and-r numbers (isPositive (c .timestep)) (c3 .0);
-      temperatures = and-r standing temps (c4 .0);
-      fair = λ h l. subst T (sym (holds-at (λ (k : ℕ). fairHeater (heaterOf f k)) (length (f .heaters)) 0 (is-true heaters (c5 .0)) h (omega arith) (omega arith))) tt;
-    }
-
-pub made-heaters : (m : TankDesign) → makeRefusal (fixedOf m) (m .initial) ≡ 0 → m .heaters ≤ maxHeaters
-unfolding makeRefusal
-made-heaters m e = subst (λ (k : ℕ). k ≤ maxHeaters) (heaters-many m) (leb→le _ maxHeaters (tank-passes (fixedOf m) (finite (m .initial)) [] e .heaters))
-
-heater-rated : (x : Placed) → T (fairHeater x) → T (notNegative (x .rated))
-heater-rated x t = and-l (notNegative (x .rated)) (isPosition (x .position)) (and-l (notNegative (x .rated) && isPosition (x .position)) (isPosition (x .thermostat)) t)
 
 -- ---- the events
 
@@ -133,13 +87,13 @@ module _ (m : TankDesign) (a : Step) where
 
   -- ---- the step
 
-  order-fair : length (fixedOf m .heaters) ≤ maxHeaters → ((h : ℕ) → h < length (fixedOf m .heaters) → T (fairHeater (heaterOf (fixedOf m) h))) → All (Fair m a) (workingOrder (fixedOf m))
+  order-fair : length (fixedOf m .heaters) ≤ maxHeaters → ((h : ℕ) → h < length (fixedOf m .heaters) → T (notNegative (heaterOf (fixedOf m) h .rated))) → All (Fair m a) (workingOrder (fixedOf m))
   order-fair l e = all-map (λ (h : ℕ). h < length (fixedOf m .heaters)) (Fair m a) fair (workingOrder (fixedOf m)) (order-below (fixedOf m))
     where
       fair : (h : ℕ) → h < length (fixedOf m .heaters) → Fair m a h
       fair h k =
           let j : h < m .heaters = subst (λ (n : ℕ). h < n) (heaters-many m) k in
-          (subst (λ (x : Placed). T (notNegative (x .rated))) (heater-is m h j) (heater-rated (heaterOf (fixedOf m) h) (e h k)), j, omega arith)
+          (subst (λ (x : Placed). T (notNegative (x .rated))) (heater-is m h j) (e h k), j, omega arith)
 
   pub work-meets : (st : State) → length (st .flags) ≡ maxHeaters → MeetsIn (Law (workingOrder (fixedOf m)) (opening st)) (work (fixedOf m) st a)
   unfolding work
@@ -159,7 +113,7 @@ module _ (m : TankDesign) (a : Step) where
       go (suc n) e = unfold begin in (tt, tt, tt, omega arith)
       go zero e = unfold begin stepRefusal in (
           let c = tank-passes (fixedOf m) (allFinite (m .layers) (st .temps)) (stepChecks (fixedOf m) a) (e refl) in
-          let fair = order-fair (leb→le (length (fixedOf m .heaters)) maxHeaters (c .heaters)) (c .fair) in
+          let fair = order-fair (leb→le (length (fixedOf m .heaters)) maxHeaters (c .heaters)) (c .rated) in
           closing-meets (m .layers) (Right m a) law (andThen drawn (λ s. allTurns (fixedOf m) a s))
           (then-meets (m .layers) (Right m a) (Law [] (opening st)) law drawn (λ s. allTurns (fixedOf m) a s) (events-meets (wantedVolumes a) (opening st))
           (λ s1 a1.

@@ -1,6 +1,7 @@
 -- What a tank is made from and a step changes, a step's checks and work, the history of a list of calls, and what demand 3 says of it.
 pub mod Fixed
 pub mod Order
+pub mod FirstRefusal
 pub mod Checks
 pub mod Work
 pub mod History
