@@ -4,9 +4,9 @@ use mathlib.Core.Bool.{true}
 use mathlib.Core.List.{List}
 use mathlib.Core.Path.{_≡_, refl, sym, subst}
 use lib.ListN.{length}
-use Rattle.job_reader.specs.declared.Record.{Record}
-use Rattle.job_reader.specs.declared.Record.the-variants.{Tank, Heater as HeaterCase, Step as StepCase, Refused}
-use Rattle.job_reader.specs.declared.Reading.{Reading}
+use Rattle.job_records.specs.declared.Record.{Record}
+use Rattle.job_records.specs.declared.Record.the-variants.{Tank, Heater as HeaterCase, Step as StepCase, Refused}
+use Rattle.job_records.specs.declared.Reading.{Reading}
 use Rattle.job_run.specs.declared.Job.{Job}
 use Rattle.job_run.specs.Job.{readingOf, stepOutcome, outcomeOf, outcome}
 use Rattle.job_run.proofs.Moves.{Moves, record-moves}

@@ -5,10 +5,10 @@ use mathlib.Core.List.{List}
 use mathlib.Core.Path.{_≡_}
 use lib.ListN.{length}
 use Rattle.tank_model.specs.declared.Step.{Step}
-use Rattle.job_reader.specs.declared.Record.{Record}
-use Rattle.job_reader.specs.declared.Record.the-variants.{Tank, Heater as HeaterCase, Step as StepCase, Refused}
-use Rattle.job_reader.specs.declared.Reading.{Reading}
-use Rattle.job_reader.specs.Windows.{Window, AreBytes, movedTo}
+use Rattle.job_records.specs.declared.Record.{Record}
+use Rattle.job_records.specs.declared.Record.the-variants.{Tank, Heater as HeaterCase, Step as StepCase, Refused}
+use Rattle.job_records.specs.declared.Reading.{Reading}
+use Rattle.job_records.specs.Windows.{Window, AreBytes, movedTo}
 use Rattle.job_run.specs.declared.Job.{Job}
 use Rattle.job_run.specs.Job.{stepOf, offsetOf, readingOf}
 use Rattle.job_run.specs.Windows.{inWhole, outcomeInWhole, windowRun, Windowed}

@@ -6,9 +6,9 @@ use Rattle.tank_model.specs.declared.Step.{Step}
 use Rattle.storage_tank.specs.declared.StorageTank.{StorageTank}
 use Rattle.storage_tank.specs.declared.Report.{Report}
 use Rattle.storage_tank.specs.Calls.{stepped}
-use Rattle.job_reader.specs.declared.Record.{Record}
-use Rattle.job_reader.specs.declared.Record.the-variants.{Tank, Heater as HeaterCase, Step as StepCase, Refused}
-use Rattle.job_reader.specs.declared.Reading.{Reading}
+use Rattle.job_records.specs.declared.Record.{Record}
+use Rattle.job_records.specs.declared.Record.the-variants.{Tank, Heater as HeaterCase, Step as StepCase, Refused}
+use Rattle.job_records.specs.declared.Reading.{Reading}
 use Rattle.job_run.specs.declared.Job.{Job}
 use Rattle.job_run.specs.Job.{Outcome, stepOf, afterStep, outcomeOf, readingOf, runAll}
 use Rattle.job_history.specs.Facts.{stepTurns, turnsOf}

@@ -1,7 +1,7 @@
 // One record of a job's history: the tank made, a heater added, a step's turns, or the end.
 ghost use Rattle.job_run.specs.Job.{Countable, Gives};
 ghost use Rattle.job_history.specs.History.{historyStep, historyOutcome};
-use job_reader::Record;
+use job_records::Record;
 use job_run::Job;
 use job_run::Printed;
 use tank_model::Step;

@@ -11,6 +11,10 @@ use lib.Seq.{sets, length-sets, take-nil, take-all, take-at}
 abbrev pub written : List ℕ → List ℕ → List ℕ
 written buffer text = take (length buffer) text ++ drop (length text) buffer
 
+-- r is the length of a record's whole text, which is never long, and the buffer holds the text as far as it fits
+abbrev pub PutWhole : List ℕ → List ℕ → List ℕ → ℕ → Type 0
+PutWhole text before after r = (r ≡ length text) × (after ≡ written before text) × (r ≤ 1500)
+
 -- the text stands in the buffer from a place on, and `next` is the place after it
 pub record Put (before : List ℕ) (at : ℕ) (text after : List ℕ) (next : ℕ) : Type 0 where
   pub stands : after ≡ sets before at text

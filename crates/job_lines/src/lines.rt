@@ -2,11 +2,12 @@
 ghost use mathlib.Core.Path.{_≡_};
 ghost use mathlib.Core.Bool.{cond};
 ghost use Prim.Native.Nat.{ℕ, _+_, _*_, _≤_, _<_};
-ghost use lib.ListN.{length, getD};
+ghost use lib.ListN.{getD};
 ghost use Rattle.mixing.specs.Limits.{maxLayers};
 ghost use Rattle.working_order.specs.Order.{maxHeaters};
-ghost use Rattle.job_lines.specs.Put.{Put, written};
-ghost use Rattle.job_lines.specs.Lines.{atMost, headText, totalsText, layersText, layersLine, heaterLine, heaterLines, refusalLine, refusedLines, acceptedLines, stepLines};
+ghost use Rattle.job_lines.specs.Put.{Put, PutWhole};
+ghost use Rattle.job_lines.specs.Lines.{atMost, headText, totalsText, layersText, layersLine, heaterLine, heaterLines};
+ghost use Rattle.job_lines.specs.Lines.{refusalLine, refusedLines, acceptedLines, stepLines};
 use crate::text::put_byte;
 use crate::text::put_double;
 use crate::text::put_number;
@@ -110,7 +111,7 @@ fn put_heater_lines(
 
 // E, a number and the record's start.
 pub fn refusal_line(buf: &mut [u8], number: u8, offset: usize) -> usize
-    ensures { λ r. ⌜ (r ≡ length (refusalLine number offset)) × (now (buf .exit) ≡ written (now (buf .entry)) (refusalLine number offset)) × (r ≤ 1500) ⌝ }
+    ensures { λ r. ⌜ PutWhole (refusalLine number offset) (now (buf .entry)) (now (buf .exit)) r ⌝ }
 {
     let a = put_byte(buf, 0, b'E');
     let b = put_number(buf, a, number as usize);
@@ -126,7 +127,7 @@ fn refused_lines(
     layers: usize,
     temps: &[f64; MAX_LAYERS],
 ) -> usize
-    ensures { λ r. ⌜ (r ≡ length (refusedLines index number layers (now (temps .entry)))) × (now (buf .exit) ≡ written (now (buf .entry)) (refusedLines index number layers (now (temps .entry)))) × (r ≤ 1500) ⌝ }
+    ensures { λ r. ⌜ PutWhole (refusedLines index number layers (now (temps .entry))) (now (buf .entry)) (now (buf .exit)) r ⌝ }
 {
     let n = at_most(layers, MAX_LAYERS);
     let a = put_head(buf, index, number);
@@ -145,7 +146,7 @@ fn accepted_lines(
     order: [usize; MAX_HEATERS],
 ) -> usize
     requires { ⌜ (heaters ≤ maxHeaters) × ((k : ℕ) → k < heaters → getD order k 0 < maxHeaters) ⌝ }
-    ensures { λ r. ⌜ (r ≡ length (acceptedLines index report layers (now (temps .entry)) heaters order)) × (now (buf .exit) ≡ written (now (buf .entry)) (acceptedLines index report layers (now (temps .entry)) heaters order)) × (r ≤ 1500) ⌝ }
+    ensures { λ r. ⌜ PutWhole (acceptedLines index report layers (now (temps .entry)) heaters order) (now (buf .entry)) (now (buf .exit)) r ⌝ }
 {
     let n = at_most(layers, MAX_LAYERS);
     let a = put_head(buf, index, 0);
@@ -157,7 +158,7 @@ fn accepted_lines(
 
 // A step's lines, by its number. Its heaters are printed in working order.
 pub fn step_lines(buf: &mut [u8], index: usize, s: Stepped) -> usize
-    ensures { λ r. ⌜ (r ≡ length (stepLines index s)) × (now (buf .exit) ≡ written (now (buf .entry)) (stepLines index s)) × (r ≤ 1500) ⌝ }
+    ensures { λ r. ⌜ PutWhole (stepLines index s) (now (buf .entry)) (now (buf .exit)) r ⌝ }
 {
     let t = s.tank;
     let temps = t.temps;

@@ -5,10 +5,10 @@ ghost use lib.ListN.{length};
 ghost use Rattle.numeric.specs.Holds.{holds};
 ghost use Rattle.draw_off.specs.Lent.{maxEvents};
 ghost use Rattle.working_order.specs.Order.{maxHeaters};
-ghost use Rattle.job_reader.specs.Fields.{volumesAt, isPresenceAt, pointsAt, settingsAt};
-use crate::bytes::f64_at;
+ghost use Rattle.job_records.specs.Fields.{volumesAt, isPresenceAt, pointsAt, settingsAt};
 use draw_off::event::MAX_EVENTS;
 use heating::SetPoints;
+use job_records::bytes::f64_at;
 use tank_model::Setting;
 use working_order::MAX_HEATERS;
 

@@ -12,12 +12,12 @@ use Rattle.tank_model.specs.declared.TankDesign.{TankDesign}
 use Rattle.tank_model.specs.declared.Step.{Step}
 use Rattle.tank_model.specs.Checks.{heatersCheck}
 use Rattle.storage_tank.specs.Calls.{made}
-use Rattle.job_reader.specs.declared.Record.{Record}
-use Rattle.job_reader.specs.declared.Record.the-variants.{Tank, Heater as HeaterCase, Step as StepCase, Refused}
-use Rattle.job_reader.specs.declared.Reading.{Reading}
-use Rattle.job_reader.specs.WellFormed.{WellFormed}
-use Rattle.job_reader.specs.Records.{refusedAt}
-use Rattle.job_reader.proofs.ReadLaws.{read-either, well-formed-moves}
+use Rattle.job_records.specs.declared.Record.{Record}
+use Rattle.job_records.specs.declared.Record.the-variants.{Tank, Heater as HeaterCase, Step as StepCase, Refused}
+use Rattle.job_records.specs.declared.Reading.{Reading}
+use Rattle.job_records.specs.WellFormed.{WellFormed}
+use Rattle.job_records.specs.Records.{refusedAt}
+use Rattle.job_records.proofs.ReadLaws.{read-either, well-formed-moves}
 use Rattle.job_run.specs.declared.Job.{Job}
 use Rattle.job_run.specs.Job.{Outcome, designOf, withHeater, stepOf, readingOf, endedJob, offsetOf, withTank, refusedOutcome, madeOutcome, heaterOutcome, stepOutcome, endOutcome, outcomeOf, outcome}
 

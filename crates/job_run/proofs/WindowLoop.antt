@@ -6,7 +6,7 @@ use mathlib.Core.List.{List, [], _++_, append-assoc, append-nil}
 use mathlib.Core.Path.{_≡_, refl, sym, ap, subst, _∙_}
 use borrow.Author.Tests.{not-true}
 use lib.ListN.{length, length-append}
-use Rattle.job_reader.proofs.ReadLaws.{both}
+use Rattle.numeric.specs.Holds.{both}
 use Rattle.job_run.specs.declared.Job.{Job}
 use Rattle.job_run.specs.Job.{Outcome, followed}
 use Rattle.job_run.specs.Windows.{runReady, Stops}

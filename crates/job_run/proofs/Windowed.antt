@@ -8,8 +8,8 @@ use mathlib.Core.Path.{_≡_, refl, sym, ap, subst, _∙_}
 use borrow.Author.Tests.{leb-true, not-true}
 use lib.Dec.{leb}
 use lib.ListN.{length}
-use Rattle.job_reader.specs.Windows.{Window, AreBytes, maxRecord, isReady}
-use Rattle.job_reader.proofs.ReadLaws.{both}
+use Rattle.job_records.specs.Windows.{Window, AreBytes, maxRecord, isReady}
+use Rattle.numeric.specs.Holds.{both}
 use Rattle.job_run.specs.declared.Job.{Job}
 use Rattle.job_run.specs.Job.{Outcome, startJob, offsetOf, followed, outcome, runAll, jobText}
 use Rattle.job_run.specs.Windows.{inWhole, outcomeInWhole, movedUp, runReady, windowRecords, windowRun, Windowed, begun, another}

@@ -17,13 +17,13 @@ use Rattle.tank_model.specs.Work.{zeroLine}
 use Rattle.storage_tank.specs.declared.StorageTank.{StorageTank}
 use Rattle.storage_tank.specs.declared.Report.{Report}
 use Rattle.storage_tank.specs.Calls.{zeroHeater, zeroTank, made, stepped}
-use Rattle.job_reader.specs.declared.TankRecord.{TankRecord}
-use Rattle.job_reader.specs.declared.StepRecord.{StepRecord}
-use Rattle.job_reader.specs.declared.Record.{Record}
-use Rattle.job_reader.specs.declared.Record.the-variants.{Tank, Heater as HeaterCase, Step as StepCase, Refused}
-use Rattle.job_reader.specs.declared.Reading.{Reading}
-use Rattle.job_reader.specs.Records.{readRecord}
-use Rattle.job_reader.specs.Values.{zeroTankRecord, numberIn}
+use Rattle.job_records.specs.declared.TankRecord.{TankRecord}
+use Rattle.job_records.specs.declared.StepRecord.{StepRecord}
+use Rattle.job_records.specs.declared.Record.{Record}
+use Rattle.job_records.specs.declared.Record.the-variants.{Tank, Heater as HeaterCase, Step as StepCase, Refused}
+use Rattle.job_records.specs.declared.Reading.{Reading}
+use Rattle.job_records.specs.Records.{readRecord}
+use Rattle.job_records.specs.Values.{zeroTankRecord, numberIn}
 use Rattle.job_lines.specs.Put.{written}
 use Rattle.job_lines.specs.Lines.{refusalLine, stepLines}
 use Rattle.job_run.specs.declared.Job.{Job}
@@ -89,7 +89,16 @@ pub record Gives (t : Outcome) (before after : List ℕ) (r : Printed) : Type 0 
   pub short : r .length ≤ 1500
 
 abbrev pub endedJob : Job → Job
-endedJob j = record { before = j .before; at = j .at; ended = true; «has_tank» = j .«has_tank»; steps = j .steps; design = j .design; tank = j .tank; report = j .report }
+endedJob j = record {
+  before = j .before;
+  at = j .at;
+  ended = true;
+  «has_tank» = j .«has_tank»;
+  steps = j .steps;
+  design = j .design;
+  tank = j .tank;
+  report = j .report;
+}
 
 -- the next record's start in the whole input
 abbrev pub offsetOf : Job → ℕ
@@ -119,7 +128,8 @@ unfoldable pub heaterOutcome : Job → ℕ → Heater → Outcome
 heaterOutcome j next h = unlessRefused j (heatersCheck (j .design .heaters + 1)) (madeOutcome j next (withHeater (j .design) h))
 
 abbrev pub afterStep : Job → ℕ → StorageTank → Report → Job
-afterStep j next t r = record { before = j .before; at = next; ended = j .ended; «has_tank» = j .«has_tank»; steps = j .steps + 1; design = j .design; tank = t; report = r }
+afterStep j next t r =
+    record { before = j .before; at = next; ended = j .ended; «has_tank» = j .«has_tank»; steps = j .steps + 1; design = j .design; tank = t; report = r }
 
 -- a step's lines; refused or not, the job goes on and the index counts it
 unfoldable pub stepOutcome : Job → ℕ → Step → Outcome

@@ -3,7 +3,7 @@ ghost use mathlib.Core.Path.{_≡_};
 ghost use Rattle.job_run.specs.Job.{Countable, Gives, refusedOutcome, madeOutcome, heaterOutcome, stepOutcome, endOutcome, outcome, endedJob};
 use crate::Job;
 use crate::Printed;
-use job_reader::Record;
+use job_records::Record;
 use storage_tank::StorageTank;
 use tank_model::Heater;
 use tank_model::Step;

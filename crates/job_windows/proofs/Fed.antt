@@ -9,8 +9,8 @@ use borrow.Author.Tests.{ltb-true, ltb-false}
 use lib.Dec.{ltb}
 use lib.ListN.{length, getD, take, drop, length-drop}
 use lib.Seq.{getD-take, getD-drop, length-take-le}
-use Rattle.job_reader.specs.Bytes.{byteAt}
-use Rattle.job_reader.specs.Windows.{Window}
+use Rattle.job_records.specs.Bytes.{byteAt}
+use Rattle.job_records.specs.Windows.{Window}
 use Rattle.job_run.specs.declared.Job.{Job}
 use Rattle.job_run.specs.Job.{Outcome}
 use Rattle.job_run.specs.Windows.{movedUp, windowRecords, Windowed, another}

@@ -1,12 +1,12 @@
--- States what becomes of a window of standard input (01, Job), whatever was read into it: the bytes that it held stay its first, its records are run, and the rest
--- of it begins the next window.
+-- States what becomes of a window of standard input (01, Job), whatever was read into it: the bytes that it held stay its first, its records are run, and the
+-- rest of it begins the next window.
 use Prim.Native.Nat.{ℕ, _+_, _*_, _-_, _≤_}
 use mathlib.Core.Bool.{Bool, true, false}
 use mathlib.Core.List.{List}
 use mathlib.Core.Path.{_≡_}
 use lib.Dec.{ltb}
 use lib.ListN.{length, take, drop}
-use Rattle.job_reader.specs.Windows.{Window, isReady}
+use Rattle.job_records.specs.Windows.{Window, isReady}
 use Rattle.job_run.specs.declared.Job.{Job}
 use Rattle.job_run.specs.Job.{Outcome}
 use Rattle.job_run.specs.Windows.{movedUp, windowRecords, Stops}

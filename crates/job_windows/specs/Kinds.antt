@@ -4,7 +4,7 @@ use mathlib.Core.Bool.{Bool, true, false, not, _&&_, _||_}
 use mathlib.Core.List.{List}
 use lib.Dec.{leb}
 use lib.ListN.{length}
-use Rattle.job_reader.specs.Windows.{maxRecord}
+use Rattle.job_records.specs.Windows.{maxRecord}
 use Rattle.job_run.specs.declared.Job.{Job}
 use Rattle.job_run.specs.Job.{Outcome, outcome}
 use Rattle.job_history.specs.History.{historyOutcome}

@@ -7,9 +7,10 @@ use mathlib.Core.Logic.{⊎-elim}
 use mathlib.Core.Path.{_≡_, refl, sym}
 use mathlib.Core.Bool.{Bool, true, false, _&&_, true≢false}
 
-and-true : (a b : Bool) → (a && b) ≡ true → (a ≡ true) × (b ≡ true)
-and-true true b h = (refl, h)
-and-true false b h = absurd (true≢false (sym h))
+-- two tests that hold together
+pub both : (a b : Bool) → (a && b) ≡ true → (a ≡ true) × (b ≡ true)
+both true b h = (refl, h)
+both false b h = absurd (true≢false (sym h))
 
 regroup : (a b c : Bool) → (a && (b && c)) ≡ (a && b && c)
 regroup true b c = refl
@@ -50,7 +51,7 @@ module _ (p : ℕ → Bool) where
   unfolding holds
   holds-at zero i h j l u = absurd (omega arith)
   holds-at (suc k) i h j l u =
-      let both = and-true (p i) (holds k (i + 1)) h in
+      let both = both (p i) (holds k (i + 1)) h in
       ⊎-elim (λ e. rw (← e) (both .0)) (λ lt. holds-at k (i + 1) (both .1) j (omega arith) (omega arith)) (eq-or-lt-of-le l)
 
   pub at-holds : (k i : ℕ) → ((j : ℕ) → i ≤ j → j < i + k → p j ≡ true) → holds k i ≡ true

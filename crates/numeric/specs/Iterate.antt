@@ -55,7 +55,8 @@ module _ {S : Type 0} (f : ℕ → S → S) where
   iterate-keep P n h (suc k) i s l p = iterate-keep P n h k (i + 1) (f i s) (omega arith) (h i s (omega arith) p)
 
   -- what holds of i and s, and after a pass of i + 1 and the next state, holds at the end
-  pub iterate-reach : (P : ℕ → S → Type 0) (n : ℕ) → ((i : ℕ) (s : S) → i < n → P i s → P (i + 1) (f i s)) → (k i : ℕ) (s : S) → i + k ≤ n → P i s → P (i + k) (iterate k i s)
+  pub iterate-reach : (P : ℕ → S → Type 0) (n : ℕ) → ((i : ℕ) (s : S) → i < n → P i s → P (i + 1) (f i s)) → (k i : ℕ) (s : S) → i + k ≤ n → P i s
+      → P (i + k) (iterate k i s)
   unfolding iterate
   iterate-reach P n h zero i s l p = rw add-zero p
   iterate-reach P n h (suc k) i s l p =
@@ -82,7 +83,8 @@ module _ {S : Type 0} (f : ℕ → S → S) where
 
 -- two loops side by side: what each pair of passes below n keeps between their states, the whole loops keep
 module _ {S U : Type 0} (f : ℕ → S → S) (g : ℕ → U → U) where
-  pub iterate-beside : (R : ℕ → S → U → Type 0) (n : ℕ) → ((i : ℕ) (s : S) (u : U) → i < n → R i s u → R (i + 1) (f i s) (g i u)) → (k i : ℕ) (s : S) (u : U) → i + k ≤ n → R i s u → R (i + k) (iterate f k i s) (iterate g k i u)
+  pub iterate-beside : (R : ℕ → S → U → Type 0) (n : ℕ) → ((i : ℕ) (s : S) (u : U) → i < n → R i s u → R (i + 1) (f i s) (g i u))
+      → (k i : ℕ) (s : S) (u : U) → i + k ≤ n → R i s u → R (i + k) (iterate f k i s) (iterate g k i u)
   unfolding iterate
   iterate-beside R n h zero i s u l r = rw add-zero r
   iterate-beside R n h (suc k) i s u l r =

@@ -76,7 +76,7 @@ fn next_size() -> usize {
     if got < 4 {
         return MAX_BYTES + 1;
     }
-    job_reader::bytes::u32_at(&head, 0) as usize
+    job_records::bytes::u32_at(&head, 0) as usize
 }
 
 fn ended(t: Tally) -> Tally {

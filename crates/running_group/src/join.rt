@@ -157,7 +157,7 @@ pub fn join(r: RunningGroup, vol: &[f64; MAX_LAYERS], i: usize, v: f64, next: f6
     ensures { λ q. ⌜ StillFollows (now (vol .entry)) i next r q ⌝ }
 {
     let own = v * next;
-    let heat = numeric::sum2::add_smaller(r.heat, own);
+    let heat = shorter_sums::add_smaller(r.heat, own);
     // A volume counts times 1, as the definition has it; the compiled code leaves that out.
     let volume = numeric::sum2::add_term(r.volume, v * 1.0);
     if v == r.each {

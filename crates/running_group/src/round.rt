@@ -40,8 +40,8 @@ fn start_group(i: usize, temp: f64, v: f64, below: f64, sorted: bool, met: f64) 
     RunningGroup {
         bottom: i,
         temp,
-        heat: numeric::sum2::one_term(product),
-        volume: numeric::sum2::one_term(v * 1.0),
+        heat: shorter_sums::one_term(product),
+        volume: shorter_sums::one_term(v * 1.0),
         each: v,
         below,
         sorted,

@@ -28,7 +28,7 @@ pub fn even_heat(vol: &[f64; MAX_LAYERS], bottom: usize, end: usize, x: f64, p: 
     ensures { λ r. ⌜ EvenSum (now (vol .entry)) x p bottom end r ⌝ }
 {
     if p > 0.0 {
-        return numeric::sum2::equal_terms(p, end - bottom);
+        return shorter_sums::equal_terms(p, end - bottom);
     }
     heat_at(vol, bottom, end, x)
 }

@@ -22,11 +22,11 @@ use Rattle.storage_tank.specs.declared.Report.{Report}
 use Rattle.storage_tank.specs.Tank.{fixedIn, stateIn}
 use Rattle.storage_tank.specs.Calls.{fittedHeaters, madeOf, made, answer, stepped}
 use Rattle.storage_tank.proofs.Calls.{refused-step}
-use Rattle.shim.specs.Flags.{flagIn, flagsIn, bytesOf, ZeroOrOne}
-use Rattle.shim.specs.Tanks.{tankIn, TankHeld, TankWritten}
-use Rattle.shim.specs.Reports.{reportIn, lineFlagsOf, ReportHeld}
+use Rattle.lent_tank.specs.Flags.{flagIn, flagsIn, bytesOf, ZeroOrOne}
+use Rattle.lent_tank.specs.Tanks.{tankIn, TankHeld, TankWritten}
+use Rattle.lent_tank.specs.Reports.{reportIn, lineFlagsOf, ReportHeld}
 use Rattle.shim.specs.Answers.{bytesLeft, MakeAnswered, StepLeft, StepAnswered}
-use Rattle.shim.proofs.Bytes.{flags-back, bytes-back}
+use Rattle.lent_tank.proofs.Bytes.{flags-back, bytes-back}
 use Rattle.shim.proofs.Kept.{tank-held-as-lent, report-held-as-lent, Kept}
 
 -- ---- 8 flags read in their array, and the heaters with them

@@ -1,7 +1,7 @@
 -- `record::next_history` meets its contract (01, Job): the record that stands there, by its kind.
 use mathlib.Core.Path.{_≡_, ap, _∙_}
-use Rattle.job_reader.specs.Values.{numberIn}
-use Rattle.job_reader.specs.declared.Record.the-variants.{Refused}
+use Rattle.job_records.specs.Values.{numberIn}
+use Rattle.job_records.specs.declared.Record.the-variants.{Refused}
 use Rattle.job_run.specs.Job.{outcomeOf}
 use Rattle.job_history.specs.History.{historyOf, historyOutcome}
 use borrow.Author.Needs.{needs}

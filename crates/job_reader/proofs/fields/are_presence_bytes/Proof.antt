@@ -2,7 +2,7 @@
 use Prim.Native.Nat.{_-_}
 use borrow.Author.Tests.{lt-leb, le-leb}
 use Rattle.numeric.specs.Holds.{Passed, passed-start, passed-next, passed-fails, passed-end}
-use Rattle.job_reader.specs.Fields.{isPresenceAt}
+use Rattle.job_records.specs.Fields.{isPresenceAt}
 use borrow.Author.Needs.{needs}
 use Rattle.job_reader.proofs.fields.are_presence_bytes.Statement.{statement}
 use Rattle.job_reader.proofs.fields.are_presence_bytes.Tie as tie

@@ -4,8 +4,8 @@ use mathlib.Core.Path.{_≡_, refl}
 use Prim.Native.Nat.{_-_, _≤_}
 use native.Mathlib.Omega.{arith}
 use Rattle.tank_model.specs.Checks.{noSetting}
-use Rattle.job_reader.specs.Fields.{filled, noSettings, settingAt, settingsAt}
-use Rattle.job_reader.proofs.Filling.{filled-next}
+use Rattle.job_records.specs.Fields.{filled, noSettings, settingAt, settingsAt}
+use Rattle.job_records.proofs.Filling.{filled-next}
 use borrow.Author.Needs.{needs}
 use Rattle.job_reader.proofs.fields.settings_at.Statement.{statement}
 use Rattle.job_reader.proofs.fields.settings_at.Tie as tie

@@ -4,9 +4,9 @@ use mathlib.Core.Path.{_≡_, refl}
 use Prim.Native.Nat.{ℕ, _+_, _*_, _-_, _≤_}
 use native.Mathlib.Omega.{arith}
 use lib.Ieee.{nan}
-use Rattle.job_reader.specs.Bytes.{doubleAt}
-use Rattle.job_reader.specs.Fields.{filled, noVolumes, volumesAt}
-use Rattle.job_reader.proofs.Filling.{filled-next}
+use Rattle.job_records.specs.Bytes.{doubleAt}
+use Rattle.job_records.specs.Fields.{filled, noVolumes, volumesAt}
+use Rattle.job_records.proofs.Filling.{filled-next}
 use borrow.Author.Needs.{needs}
 use Rattle.job_reader.proofs.fields.volumes_at.Statement.{statement}
 use Rattle.job_reader.proofs.fields.volumes_at.Tie as tie

@@ -3,8 +3,8 @@ use native.Mathlib.Omega.{arith}
 use mathlib.Core.Bool.{true≢false}
 use mathlib.Core.Path.{sym, ap, _∙_}
 use lib.ListN.{length}
-use Rattle.job_reader.specs.Windows.{isReady}
-use Rattle.job_reader.proofs.ReadLaws.{both}
+use Rattle.job_records.specs.Windows.{isReady}
+use Rattle.numeric.specs.Holds.{both}
 use Rattle.job_run.proofs.Ends.{recordsLeft, record-shortens}
 use Rattle.job_run.proofs.WindowLoop.{Running, goesOn, running-start, running-next, running-cut}
 use Rattle.job_windows.specs.Kinds.{linesOf}
