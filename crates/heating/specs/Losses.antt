@@ -85,7 +85,7 @@ module _ (c : Cylinder) (vol : List Float) (p : SetPoints) (before mixed charged
 
   -- added plainly from the heater's layer up
   abbrev pub surplusFrom : ℕ → Float
-  surplusFrom layer = turns (λ (k : ℕ) (s : Float). s ⊕ surplusAt k) (c .layers - layer) layer zero-f
+  surplusFrom layer = iterate (λ (k : ℕ) (s : Float). s ⊕ surplusAt k) (c .layers - layer) layer zero-f
 
   -- if that layer, warmed or not, is over the upper set point; else 0
   unfoldable pub surplus : ℕ → Float
