@@ -6,6 +6,7 @@ ghost use lib.ListN.{length, getD};
 ghost use Rattle.mixing.specs.Limits.{maxLayers};
 ghost use Rattle.working_order.specs.Order.{maxHeaters};
 ghost use Rattle.job_lines.specs.Put.{Put, written};
+ghost use Rattle.job_lines.specs.Lengths.{headBytes, totalsBytes, layersBytes, heaterBytes, beforeHeaters, maxText};
 ghost use Rattle.job_lines.specs.Lines.{atMost, headText, totalsText, layersText, layersLine, heaterLine, heaterLines, refusalLine, refusedLines, acceptedLines, stepLines};
 use crate::text::put_byte;
 use crate::text::put_double;
@@ -31,7 +32,7 @@ pub fn flag_number(flag: bool) -> usize
 
 // S, the step's index and its number, the line not ended.
 pub fn put_head(buf: &mut [u8], index: usize, number: u8) -> usize
-    ensures { λ r. ⌜ (Put (now (buf .entry)) 0 (headText index number) (now (buf .exit)) r) × (r ≤ 43) ⌝ }
+    ensures { λ r. ⌜ (Put (now (buf .entry)) 0 (headText index number) (now (buf .exit)) r) × (r ≤ headBytes) ⌝ }
 {
     let a = put_byte(buf, 0, b'S');
     let b = put_number(buf, a, index);
@@ -40,8 +41,8 @@ pub fn put_head(buf: &mut [u8], index: usize, number: u8) -> usize
 
 // The four totals, and the line's end.
 fn put_totals(buf: &mut [u8], at: usize, report: Report) -> usize
-    requires { ⌜ at ≤ 43 ⌝ }
-    ensures { λ r. ⌜ (Put (now (buf .entry)) at (totalsText report) (now (buf .exit)) r) × (r ≤ at + 69) ⌝ }
+    requires { ⌜ at ≤ headBytes ⌝ }
+    ensures { λ r. ⌜ (Put (now (buf .entry)) at (totalsText report) (now (buf .exit)) r) × (r ≤ at + totalsBytes) ⌝ }
 {
     let a = put_double(buf, at, report.energy);
     let b = put_double(buf, a, report.used);
@@ -52,7 +53,7 @@ fn put_totals(buf: &mut [u8], at: usize, report: Report) -> usize
 
 // The first n layers, each after a space.
 fn put_layers(buf: &mut [u8], at: usize, n: usize, temps: &[f64; MAX_LAYERS]) -> usize
-    requires { ⌜ (n ≤ maxLayers) × (at ≤ 200) ⌝ }
+    requires { ⌜ (n ≤ maxLayers) × (at ≤ headBytes + totalsBytes + 1) ⌝ }
     ensures { λ r. ⌜ (Put (now (buf .entry)) at (layersText n (now (temps .entry))) (now (buf .exit)) r) × (r ≤ at + 17 * n) ⌝ }
 {
     let mut a = at;
@@ -65,8 +66,8 @@ fn put_layers(buf: &mut [u8], at: usize, n: usize, temps: &[f64; MAX_LAYERS]) ->
 }
 
 fn put_layers_line(buf: &mut [u8], at: usize, n: usize, temps: &[f64; MAX_LAYERS]) -> usize
-    requires { ⌜ (n ≤ maxLayers) × (at ≤ 199) ⌝ }
-    ensures { λ r. ⌜ (Put (now (buf .entry)) at (layersLine n (now (temps .entry))) (now (buf .exit)) r) × (r ≤ at + 546) ⌝ }
+    requires { ⌜ (n ≤ maxLayers) × (at ≤ headBytes + totalsBytes) ⌝ }
+    ensures { λ r. ⌜ (Put (now (buf .entry)) at (layersLine n (now (temps .entry))) (now (buf .exit)) r) × (r ≤ at + layersBytes) ⌝ }
 {
     let a = put_byte(buf, at, b'L');
     let b = put_layers(buf, a, n, temps);
@@ -74,8 +75,8 @@ fn put_layers_line(buf: &mut [u8], at: usize, n: usize, temps: &[f64; MAX_LAYERS
 }
 
 fn put_heater_line(buf: &mut [u8], at: usize, line: HeaterLine) -> usize
-    requires { ⌜ at ≤ 3000 ⌝ }
-    ensures { λ r. ⌜ (Put (now (buf .entry)) at (heaterLine line) (now (buf .exit)) r) × (r ≤ at + 95) ⌝ }
+    requires { ⌜ at ≤ maxText ⌝ }
+    ensures { λ r. ⌜ (Put (now (buf .entry)) at (heaterLine line) (now (buf .exit)) r) × (r ≤ at + heaterBytes) ⌝ }
 {
     let a = put_byte(buf, at, b'H');
     let b = put_number(buf, a, flag_number(line.flag));
@@ -94,8 +95,8 @@ fn put_heater_lines(
     order: [usize; MAX_HEATERS],
     lines: [HeaterLine; MAX_HEATERS],
 ) -> usize
-    requires { ⌜ (n ≤ maxHeaters) × (at ≤ 1000) × ((k : ℕ) → k < n → getD order k 0 < maxHeaters) ⌝ }
-    ensures { λ r. ⌜ (Put (now (buf .entry)) at (heaterLines n order lines) (now (buf .exit)) r) × (r ≤ at + 95 * n) ⌝ }
+    requires { ⌜ (n ≤ maxHeaters) × (at ≤ beforeHeaters) × ((k : ℕ) → k < n → getD order k 0 < maxHeaters) ⌝ }
+    ensures { λ r. ⌜ (Put (now (buf .entry)) at (heaterLines n order lines) (now (buf .exit)) r) × (r ≤ at + heaterBytes * n) ⌝ }
 {
     let mut a = at;
     let mut k = 0;
@@ -110,7 +111,7 @@ fn put_heater_lines(
 
 // E, a number and the record's start.
 pub fn refusal_line(buf: &mut [u8], number: u8, offset: usize) -> usize
-    ensures { λ r. ⌜ (r ≡ length (refusalLine number offset)) × (now (buf .exit) ≡ written (now (buf .entry)) (refusalLine number offset)) × (r ≤ 1500) ⌝ }
+    ensures { λ r. ⌜ (r ≡ length (refusalLine number offset)) × (now (buf .exit) ≡ written (now (buf .entry)) (refusalLine number offset)) × (r ≤ maxText) ⌝ }
 {
     let a = put_byte(buf, 0, b'E');
     let b = put_number(buf, a, number as usize);
@@ -126,7 +127,7 @@ fn refused_lines(
     layers: usize,
     temps: &[f64; MAX_LAYERS],
 ) -> usize
-    ensures { λ r. ⌜ (r ≡ length (refusedLines index number layers (now (temps .entry)))) × (now (buf .exit) ≡ written (now (buf .entry)) (refusedLines index number layers (now (temps .entry)))) × (r ≤ 1500) ⌝ }
+    ensures { λ r. ⌜ (r ≡ length (refusedLines index number layers (now (temps .entry)))) × (now (buf .exit) ≡ written (now (buf .entry)) (refusedLines index number layers (now (temps .entry)))) × (r ≤ maxText) ⌝ }
 {
     let n = at_most(layers, MAX_LAYERS);
     let a = put_head(buf, index, number);
@@ -145,7 +146,7 @@ fn accepted_lines(
     order: [usize; MAX_HEATERS],
 ) -> usize
     requires { ⌜ (heaters ≤ maxHeaters) × ((k : ℕ) → k < heaters → getD order k 0 < maxHeaters) ⌝ }
-    ensures { λ r. ⌜ (r ≡ length (acceptedLines index report layers (now (temps .entry)) heaters order)) × (now (buf .exit) ≡ written (now (buf .entry)) (acceptedLines index report layers (now (temps .entry)) heaters order)) × (r ≤ 1500) ⌝ }
+    ensures { λ r. ⌜ (r ≡ length (acceptedLines index report layers (now (temps .entry)) heaters order)) × (now (buf .exit) ≡ written (now (buf .entry)) (acceptedLines index report layers (now (temps .entry)) heaters order)) × (r ≤ maxText) ⌝ }
 {
     let n = at_most(layers, MAX_LAYERS);
     let a = put_head(buf, index, 0);
@@ -157,7 +158,7 @@ fn accepted_lines(
 
 // A step's lines, by its number. Its heaters are printed in working order.
 pub fn step_lines(buf: &mut [u8], index: usize, s: Stepped) -> usize
-    ensures { λ r. ⌜ (r ≡ length (stepLines index s)) × (now (buf .exit) ≡ written (now (buf .entry)) (stepLines index s)) × (r ≤ 1500) ⌝ }
+    ensures { λ r. ⌜ (r ≡ length (stepLines index s)) × (now (buf .exit) ≡ written (now (buf .entry)) (stepLines index s)) × (r ≤ maxText) ⌝ }
 {
     let t = s.tank;
     let temps = t.temps;
@@ -167,7 +168,7 @@ pub fn step_lines(buf: &mut [u8], index: usize, s: Stepped) -> usize
     let report = s.report;
     let fitted = t.fitted;
     let n = at_most(t.heaters, MAX_HEATERS);
-    let positions = step_work::turns::positions_of(fitted);
-    let order = working_order::working_order(n, &positions);
+    let heaters = tank_arrays::arrays::heaters_of(fitted);
+    let order = working_order::working_order(n, &heaters);
     accepted_lines(buf, index, report, t.layers, &temps, n, order)
 }

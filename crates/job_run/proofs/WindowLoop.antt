@@ -7,6 +7,7 @@ use mathlib.Core.Path.{_≡_, refl, sym, ap, subst, _∙_}
 use borrow.Author.Tests.{not-true}
 use lib.ListN.{length, length-append}
 use Rattle.job_reader.proofs.ReadLaws.{both}
+use Rattle.job_lines.specs.Lengths.{maxText}
 use Rattle.job_run.specs.declared.Job.{Job}
 use Rattle.job_run.specs.Job.{Turn, followed}
 use Rattle.job_run.specs.Windows.{runReady, Stops}
@@ -46,13 +47,13 @@ module _ (f : Job → Turn) (ready : ℕ → Bool) where
     pub counts : length (runReady f ready records j₀ .text) ≡ taken
     pub within : Within size j
     pub before : j .before ≡ j₀ .before
-    pub few : taken + 1500 * turnsLeft size (j .ended) (j .at) ≤ 1500 * suc size
+    pub few : taken + maxText * turnsLeft size (j .ended) (j .at) ≤ maxText * suc size
 
   pub running-start : (size : ℕ) (j : Job) → Within size j → Running size j j 0
   unfolding runReady
   running-start size j w = record { records = 0; goes = refl; counts = refl; within = w; before = refl; few = few (j .ended) }
     where
-      few : (b : Bool) → 0 + 1500 * turnsLeft size b (j .at) ≤ 1500 * suc size
+      few : (b : Bool) → 0 + maxText * turnsLeft size b (j .at) ≤ maxText * suc size
       few true = omega arith
       few false = omega arith
 
@@ -67,9 +68,9 @@ module _ (f : Job → Turn) (ready : ℕ → Bool) where
     longer = ap (λ (t : Turn). length (t .text)) next ∙ length-append (runReady f ready (r .records) j₀ .text) (f j .text) ∙ ap (λ (n : ℕ). n + length (f j .text)) (r .counts)
 
     -- the record's lines were taken to their end
-    pub running-turn : (more : ℕ) → more ≡ length (f j .text) → more ≤ 1500 → Running size j₀ (f j .job) (taken + more)
+    pub running-turn : (more : ℕ) → more ≡ length (f j .text) → more ≤ maxText → Running size j₀ (f j .job) (taken + more)
     running-turn more e l =
-        let left : taken + 1500 * turnsLeft size false (j .at) ≤ 1500 * suc size = rw not-ended at (r .few) in
+        let left : taken + maxText * turnsLeft size false (j .at) ≤ maxText * suc size = rw not-ended at (r .few) in
         let less = turn-less f size moves j (r .within) not-ended in
         record {
           records = suc (r .records);
