@@ -67,7 +67,7 @@ fn tell_turn(
     requires { ⌜ (1 ≤ c .layers) × (c .layers ≤ maxLayers) ⌝ }
     ensures { λ r. ⌜ Told c h p (immersion (c .layers) x .thermostat) (now (temps .entry)) (turn c (now (vol .entry)) (immersion (c .layers) x) p (now (temps .entry)) (now (charged .entry)) flag) r (now (temps .exit)) (now (charged .exit)) ⌝ }
 {
-    let i = step_work::turns::immersion_of(c.layers, x);
+    let i = tank_model::immersion_of(c.layers, x);
     let thermostat = i.thermostat;
     let start = temps[thermostat];
     let u = immersion_heater::turn::turn(c, vol, i, p, flag, temps, charged);
@@ -137,8 +137,8 @@ fn tell_turns(
     requires { ⌜ (1 ≤ c .layers) × (c .layers ≤ maxLayers) × (n ≤ maxHeaters) ⌝ }
     ensures { λ r. ⌜ (r ≡ turnsOf (turnFacts c (now (vol .entry)) fitted settings (workingOrder (fixedBy c (placedHeaters n fitted))) (now (temps .entry)) (now (charged .entry)) flags)) × (r .count ≤ maxHeaters) ⌝ }
 {
-    let positions = step_work::turns::positions_of(fitted);
-    let order = working_order::working_order(n, &positions);
+    let heaters = tank_arrays::arrays::heaters_of(fitted);
+    let order = working_order::working_order(n, &heaters);
     tell_in_order(c, vol, n, fitted, settings, &order, flags, temps, charged)
 }
 

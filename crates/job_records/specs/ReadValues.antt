@@ -9,7 +9,7 @@ use lib.Ieee.{Float}
 use Rattle.numeric.specs.Double.{zero-f}
 use Rattle.numeric.specs.Holds.{holds}
 use Rattle.working_order.specs.Order.{maxHeaters}
-use Rattle.storage_tank.specs.Calls.{zeroHeater}
+use Rattle.tank_model.specs.Fixed.{zeroHeater}
 use Rattle.job_records.specs.declared.Reading.{Reading}
 use Rattle.job_records.specs.Bytes.{byteAt, u16At, u32At, doubleAt}
 use Rattle.job_records.specs.Fields.{noVolumes, noSettings, filled, stepVolumesAt, isPresenceAt, settingsAt}

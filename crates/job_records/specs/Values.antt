@@ -10,7 +10,7 @@ use Rattle.heating.specs.declared.SetPoints.the-variants.{Neither, Lower, Upper
 use Rattle.working_order.specs.Order.{maxHeaters}
 use Rattle.tank_model.specs.declared.Heater.{Heater}
 use Rattle.tank_model.specs.declared.Setting.{Setting}
-use Rattle.storage_tank.specs.Calls.{zeroHeater}
+use Rattle.tank_model.specs.Fixed.{zeroHeater}
 use Rattle.job_records.specs.declared.TankRecord.{TankRecord}
 use Rattle.job_records.specs.declared.StepRecord.{StepRecord}
 use Rattle.job_records.specs.declared.Record.{Record}

@@ -7,6 +7,7 @@ use mathlib.Core.Bool.{Bool, true, false, true≢false}
 use mathlib.Core.List.{[], _++_}
 use mathlib.Core.Path.{_≡_, refl, sym, ap, _∙_}
 use lib.ListN.{length, length-append}
+use Rattle.job_lines.specs.Lengths.{maxText}
 use Rattle.job_run.specs.declared.Job.{Job}
 use Rattle.job_run.specs.Job.{Outcome, startJob, followed, runFrom, runAll}
 use Rattle.job_run.proofs.Moves.{Moves}
@@ -30,7 +31,7 @@ pub record Printing (f : Job → Outcome) (size : ℕ) (j : Job) (printed : ℕ)
   pub first : j .before ≡ 0
   pub ends : restOf f size j .job ≡ runAll f size .job
   pub counts : printed + length (restOf f size j .text) ≡ length (runAll f size .text)
-  pub few : printed + 1500 * recordsLeft size (j .ended) (j .at) ≤ 1500 * suc size
+  pub few : printed + maxText * recordsLeft size (j .ended) (j .at) ≤ maxText * suc size
 
 pub printing-start : (f : Job → Outcome) (size : ℕ) → Printing f size startJob 0
 printing-start f size = record {
@@ -74,13 +75,13 @@ module _ (f : Job → Outcome) (size : ℕ) (moves : (j : Job) → Moves j size 
   unfolding restOf
   rest-next j w e = from-next (j .ended) j e e w
 
-  pub printing-next : (j : Job) (printed more : ℕ) → Printing f size j printed → j .ended ≡ false → more ≡ length (f j .text) → more ≤ 1500 → Printing f size (f j .job) (printed + more)
+  pub printing-next : (j : Job) (printed more : ℕ) → Printing f size j printed → j .ended ≡ false → more ≡ length (f j .text) → more ≤ maxText → Printing f size (f j .job) (printed + more)
   printing-next j printed more p e m l =
       let t = f j in
       let rest = restOf f size (t .job) in
       let step = rest-next j (p .within) e in
       let counted : printed + length (t .text ++ rest .text) ≡ length (runAll f size .text) = rw step at (p .counts) in
-      let left : printed + 1500 * suc (size - j .at) ≤ 1500 * suc size = rw e at (p .few) in
+      let left : printed + maxText * suc (size - j .at) ≤ maxText * suc size = rw e at (p .few) in
       let less = record-less f size moves j (p .within) e in
       record {
         within = record-within f size moves j (p .within);

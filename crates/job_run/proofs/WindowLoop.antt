@@ -7,6 +7,7 @@ use mathlib.Core.Path.{_≡_, refl, sym, ap, subst, _∙_}
 use borrow.Author.Tests.{not-true}
 use lib.ListN.{length, length-append}
 use Rattle.numeric.specs.Holds.{both}
+use Rattle.job_lines.specs.Lengths.{maxText}
 use Rattle.job_run.specs.declared.Job.{Job}
 use Rattle.job_run.specs.Job.{Outcome, followed}
 use Rattle.job_run.specs.Windows.{runReady, Stops}
@@ -46,13 +47,13 @@ module _ (f : Job → Outcome) (ready : ℕ → Bool) where
     pub counts : length (runReady f ready records j₀ .text) ≡ taken
     pub within : Within size j
     pub before : j .before ≡ j₀ .before
-    pub few : taken + 1500 * recordsLeft size (j .ended) (j .at) ≤ 1500 * suc size
+    pub few : taken + maxText * recordsLeft size (j .ended) (j .at) ≤ maxText * suc size
 
   pub running-start : (size : ℕ) (j : Job) → Within size j → Running size j j 0
   unfolding runReady
   running-start size j w = record { records = 0; goes = refl; counts = refl; within = w; before = refl; few = few (j .ended) }
     where
-      few : (b : Bool) → 0 + 1500 * recordsLeft size b (j .at) ≤ 1500 * suc size
+      few : (b : Bool) → 0 + maxText * recordsLeft size b (j .at) ≤ maxText * suc size
       few true = omega arith
       few false = omega arith
 
@@ -67,9 +68,9 @@ module _ (f : Job → Outcome) (ready : ℕ → Bool) where
     longer = ap (λ (t : Outcome). length (t .text)) next ∙ length-append (runReady f ready (r .records) j₀ .text) (f j .text) ∙ ap (λ (n : ℕ). n + length (f j .text)) (r .counts)
 
     -- the record's lines were taken to their end
-    pub running-next : (more : ℕ) → more ≡ length (f j .text) → more ≤ 1500 → Running size j₀ (f j .job) (taken + more)
+    pub running-next : (more : ℕ) → more ≡ length (f j .text) → more ≤ maxText → Running size j₀ (f j .job) (taken + more)
     running-next more e l =
-        let left : taken + 1500 * recordsLeft size false (j .at) ≤ 1500 * suc size = rw not-ended at (r .few) in
+        let left : taken + maxText * recordsLeft size false (j .at) ≤ maxText * suc size = rw not-ended at (r .few) in
         let less = record-less f size moves j (r .within) not-ended in
         record {
           records = suc (r .records);

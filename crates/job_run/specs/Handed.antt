@@ -5,6 +5,7 @@ use mathlib.Core.List.{List, _++_}
 use mathlib.Core.Path.{_≡_}
 use lib.Dec.{ltb}
 use lib.ListN.{length}
+use Rattle.job_lines.specs.Lengths.{maxText}
 use Rattle.job_run.specs.declared.Job.{Job}
 use Rattle.job_run.specs.declared.Ran.{Ran}
 use Rattle.job_run.specs.Job.{Outcome, startJob, runFrom, runAll}
@@ -14,7 +15,7 @@ pub record Sends (t : Outcome) (r : Ran) : Type 0 where
   pub goes : r .job ≡ t .job
   pub within : r .taken ≤ length (t .text)
   pub told : r .failed ≡ ltb (r .taken) (length (t .text))
-  pub short : length (t .text) ≤ 1500
+  pub short : length (t .text) ≤ maxText
 
 -- the first so many records: the job after them, and what they print
 abbrev pub firstRecords : (Job → Outcome) → ℕ → Outcome

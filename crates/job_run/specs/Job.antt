@@ -12,11 +12,12 @@ use Rattle.tank_model.specs.declared.Heater.{Heater}
 use Rattle.tank_model.specs.declared.TankDesign.{TankDesign}
 use Rattle.tank_model.specs.declared.Setting.{Setting}
 use Rattle.tank_model.specs.declared.Step.{Step}
+use Rattle.tank_model.specs.Fixed.{zeroHeater}
 use Rattle.tank_model.specs.Checks.{heatersCheck}
 use Rattle.tank_model.specs.Work.{zeroLine}
 use Rattle.storage_tank.specs.declared.StorageTank.{StorageTank}
 use Rattle.storage_tank.specs.declared.Report.{Report}
-use Rattle.storage_tank.specs.Calls.{zeroHeater, zeroTank, made, stepped}
+use Rattle.storage_tank.specs.Calls.{zeroTank, made, stepped}
 use Rattle.job_records.specs.declared.TankRecord.{TankRecord}
 use Rattle.job_records.specs.declared.StepRecord.{StepRecord}
 use Rattle.job_records.specs.declared.Record.{Record}
@@ -25,6 +26,7 @@ use Rattle.job_records.specs.declared.Reading.{Reading}
 use Rattle.job_records.specs.Records.{readRecord}
 use Rattle.job_records.specs.Values.{zeroTankRecord, numberIn}
 use Rattle.job_lines.specs.Put.{written}
+use Rattle.job_lines.specs.Lengths.{maxText}
 use Rattle.job_lines.specs.Lines.{refusalLine, stepLines}
 use Rattle.job_run.specs.declared.Job.{Job}
 use Rattle.job_run.specs.declared.Printed.{Printed}
@@ -86,7 +88,7 @@ pub record Gives (t : Outcome) (before after : List ℕ) (r : Printed) : Type 0 
   pub goes : r .job ≡ t .job
   pub counts : r .length ≡ length (t .text)
   pub prints : after ≡ written before (t .text)
-  pub short : r .length ≤ 1500
+  pub short : r .length ≤ maxText
 
 abbrev pub endedJob : Job → Job
 endedJob j = record {

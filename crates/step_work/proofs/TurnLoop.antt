@@ -7,22 +7,17 @@ use native.Mathlib.Omega.{arith}
 use native.Mathlib.Numerals.{add-one}
 use lib.ListN.{getD, length, take, length-take, drop-of-length-le}
 use lib.Seq.{slice, slice-cons}
-use lib.Ieee.{Float, nan}
-use Rattle.numeric.specs.Tabulate.{tabulate, at-tabulate}
-use Rattle.numeric.specs.Whole.{layerOf}
+use lib.Ieee.{Float}
 use Rattle.cylinder.specs.declared.Cylinder.{Cylinder}
 use Rattle.draw_off.specs.declared.Totals.{Totals}
 use Rattle.draw_off.specs.Event.{Event}
 use Rattle.immersion_heater.specs.Turn.{Turned, turn, turnNumber}
-use Rattle.working_order.specs.Order.{maxHeaters, risingOrder}
-use Rattle.working_order.proofs.Same.{rising-same}
 use Rattle.tank_model.specs.declared.Heater.{Heater}
 use Rattle.tank_model.specs.declared.Setting.{Setting}
-use Rattle.tank_model.specs.Fixed.{Placed, Fixed, noHeater, placedHeaters, fixedBy}
-use Rattle.tank_model.specs.Order.{positions, workingOrder}
+use Rattle.tank_model.specs.Fixed.{Placed, immersed, Fixed, noHeater, placedHeaters, fixedBy}
 use Rattle.tank_model.specs.Checks.{noSetting}
 use Rattle.tank_model.specs.Work.{Progress, Turn, End, refused, done, Work, resume, andThen, endBy, turnOf, afterTurn, heaterTurn, turns}
-use Rattle.tank_model.proofs.Order.{many-placed, placed-at, position-at}
+use Rattle.tank_model.proofs.Order.{placed-at}
 use Rattle.step_work.specs.Lent.{Heated, immersion, settingsOnly, afterHeat, TurnWorked, progressOf}
 
 -- ---- what follows an end by a number
@@ -55,7 +50,7 @@ module _ (c : Cylinder) (vol : List Float) (n : ℕ) (fitted : List Heater) (set
     turned-is : (h : ℕ) (temps charged : List Float) (s : Heated) → h < n → turnOf fixed (settingsOnly settings) h (progressOf t average temps charged s) .turned ≡ turnAt h temps charged s
     unfolding turnOf
     turned-is h temps charged s l =
-        ap (λ (y : Placed). turn c vol (record { rated = y .rated; layer = layerOf (y .position) (c .layers); thermostat = layerOf (y .thermostat) (c .layers) }) (getD settings h noSetting .points) temps charged (getD (s .flags) h false))
+        ap (λ (y : Placed). turn c vol (immersed (c .layers) y) (getD settings h noSetting .points) temps charged (getD (s .flags) h false))
         (placed-at n fitted h l)
 
     left-is : (h : ℕ) (temps charged : List Float) (s : Heated) → afterTurn (turnOf fixed (settingsOnly settings) h (progressOf t average temps charged s)) (progressOf t average temps charged s) ≡ leftBy h s (turnOf fixed (settingsOnly settings) h (progressOf t average temps charged s) .turned)
@@ -125,21 +120,3 @@ module _ (c : Cylinder) (vol : List Float) (n : ℕ) (fitted : List Heater) (set
 
         pub loop-off : (r .number ≡ 0 → ⊥) → whole ≡ endBy (r .number) (progressOf t average temps' charged' r)
         loop-off z = sym one-more ∙ turn-off (getD order k 0) (slice (suc k) n order) temps charged s r temps' charged' h w z
-
--- ---- the order of work, by the array of positions
-
-pub order-is : (c : Cylinder) (n : ℕ) (fitted : List Heater) → n < suc maxHeaters → workingOrder (fixedBy c (placedHeaters n fitted)) ≡ risingOrder (tabulate (λ (h : ℕ). getD fitted h noHeater .position) maxHeaters 0) n
-unfolding workingOrder
-order-is c n fitted l = rw (many-placed n fitted) (rising-same (positions f) lent n same)
-  where
-    f : Fixed
-    f = fixedBy c (placedHeaters n fitted)
-
-    lent : List Float
-    lent = tabulate (λ (h : ℕ). getD fitted h noHeater .position) maxHeaters 0
-
-    same : (h : ℕ) → h < n → getD (positions f) h nan ≡ getD lent h nan
-    same h k =
-        position-at f h
-        ∙ ap (λ (y : Placed). y .position) (placed-at n fitted h k)
-        ∙ sym (at-tabulate (λ (j : ℕ). getD fitted j noHeater .position) maxHeaters h nan (omega arith))

@@ -7,7 +7,6 @@ use mathlib.Core.List.{List, []}
 use lib.ListN.{set, replicate}
 use lib.Ieee.{Float}
 use Rattle.numeric.specs.Double.{_⊕_, zero-f}
-use Rattle.numeric.specs.Whole.{layerOf}
 use Rattle.cylinder.specs.declared.Cylinder.{Cylinder}
 use Rattle.draw_off.specs.declared.Totals.{Totals}
 use Rattle.immersion_heater.specs.declared.turn.Immersion.{Immersion}
@@ -17,7 +16,7 @@ use Rattle.tank_model.specs.declared.Heater.{Heater}
 use Rattle.tank_model.specs.declared.Setting.{Setting}
 use Rattle.tank_model.specs.declared.Step.{Step}
 use Rattle.tank_model.specs.declared.HeaterLine.{HeaterLine}
-use Rattle.tank_model.specs.Fixed.{placed, placedHeaters, Fixed, State}
+use Rattle.tank_model.specs.Fixed.{placed, immersed, placedHeaters, Fixed, State}
 use Rattle.tank_model.specs.Work.{Progress, refused, done, lineOf, zeroLine, turns, endBy, recoverable, work}
 use Rattle.tank_arrays.specs.Arrays.{linesIn}
 use Rattle.step_work.specs.declared.turns.TurnsAnswer.{TurnsAnswer}
@@ -25,7 +24,7 @@ use Rattle.step_work.specs.declared.work.WorkAnswer.{WorkAnswer}
 
 -- the heater x in a tank of n layers
 abbrev pub immersion : ℕ → Heater → Immersion
-immersion n x = record { rated = x .rated; layer = layerOf (x .position) n; thermostat = layerOf (placed x .thermostat) n }
+immersion n x = immersed n (placed x)
 
 -- of a step's arguments, the turns look at the settings alone
 abbrev pub settingsOnly : List Setting → Step

@@ -16,7 +16,7 @@ use Rattle.working_order.specs.Order.{maxHeaters}
 use Rattle.tank_model.specs.declared.Heater.{Heater}
 use Rattle.tank_model.specs.declared.HeaterLine.{HeaterLine}
 use Rattle.tank_model.specs.declared.TankDesign.{TankDesign}
-use Rattle.tank_model.specs.Fixed.{Placed, Fixed, State, placed, noHeater, placedHeaters, fixedBy, fixedOf}
+use Rattle.tank_model.specs.Fixed.{Placed, Fixed, State, placed, noHeater, zeroHeater, placedHeaters, fixedBy, fixedOf}
 use Rattle.tank_model.specs.FirstRefusal.{firstRefusal}
 use Rattle.tank_model.specs.Checks.{stepRefusal}
 use Rattle.tank_model.specs.Work.{Progress, Turn, End, refused, done, Work, zeroLine, recoverable, begin, work}
@@ -32,7 +32,7 @@ use Rattle.storage_tank.specs.declared.Report.{Report}
 use Rattle.storage_tank.specs.declared.Made.{Made}
 use Rattle.storage_tank.specs.declared.Stepped.{Stepped}
 use Rattle.storage_tank.specs.Tank.{fixedIn}
-use Rattle.storage_tank.specs.Calls.{zeroHeater, cleanHeater, fittedHeaters, madeOf, made, answer, stepped, answered, answers}
+use Rattle.storage_tank.specs.Calls.{cleanHeater, fittedHeaters, madeOf, made, answer, stepped, answered, answers}
 use Rattle.storage_tank.specs.Demand.{AnswersSupplies, AnswersTotals, AnswersNumber, noAnswer, lastTank, tankOf, NoTank, holding, AsGiven, FittedAsGiven, Demand3, Promises}
 
 -- ---- a tank that holds make's numbers is read as make's arguments

@@ -11,7 +11,7 @@ use Rattle.working_order.specs.Order.{maxHeaters}
 use Rattle.tank_model.specs.declared.Heater.{Heater}
 use Rattle.tank_model.specs.declared.TankDesign.{TankDesign}
 use Rattle.tank_model.specs.declared.Step.{Step}
-use Rattle.tank_model.specs.Fixed.{noHeater, fixedOf}
+use Rattle.tank_model.specs.Fixed.{noHeater, zeroHeater, fixedOf}
 use Rattle.tank_model.specs.Checks.{makeRefusal}
 use Rattle.tank_model.specs.Work.{Progress, End, refused, done, recoverable, work}
 use Rattle.tank_model.specs.History.{Call, step}
@@ -22,9 +22,6 @@ use Rattle.storage_tank.specs.declared.Stepped.{Stepped}
 use Rattle.storage_tank.specs.Tank.{fixedIn, stateIn}
 
 -- ---- make
-
-abbrev pub zeroHeater : Heater
-zeroHeater = record { rated = zero-f; position = zero-f; «has_thermostat» = false; thermostat = zero-f }
 
 -- an absent thermostat's position is zero
 abbrev pub cleanHeater : Heater → Heater

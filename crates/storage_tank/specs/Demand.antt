@@ -12,7 +12,7 @@ use lib.Ieee.{Float}
 use Rattle.numeric.specs.Double.{zero-f}
 use Rattle.tank_model.specs.declared.Heater.{Heater}
 use Rattle.tank_model.specs.declared.TankDesign.{TankDesign}
-use Rattle.tank_model.specs.Fixed.{State, noHeater}
+use Rattle.tank_model.specs.Fixed.{State, noHeater, zeroHeater}
 use Rattle.tank_model.specs.Work.{Progress, Turn, done, Work, zeroLine}
 use Rattle.tank_model.specs.History.{Call, designRefusal, history}
 use Rattle.tank_model.specs.Members.{All}
@@ -22,7 +22,7 @@ use Rattle.storage_tank.specs.declared.StorageTank.{StorageTank}
 use Rattle.storage_tank.specs.declared.Report.{Report}
 use Rattle.storage_tank.specs.declared.Made.{Made}
 use Rattle.storage_tank.specs.declared.Stepped.{Stepped}
-use Rattle.storage_tank.specs.Calls.{zeroHeater, fittedHeaters, zeroTank, answered}
+use Rattle.storage_tank.specs.Calls.{fittedHeaters, zeroTank, answered}
 
 -- ---- of one call's work and what it answered
 

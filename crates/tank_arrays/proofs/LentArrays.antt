@@ -15,7 +15,7 @@ use Rattle.numeric.specs.Tabulate.{tabulate, tabulate-same, length-tabulate, at
 use Rattle.heating.specs.declared.SetPoints.{SetPoints}
 use Rattle.heating.specs.declared.SetPoints.the-variants.{Neither, Lower, Upper, Both}
 use Rattle.heating.specs.SetPoints.{hasUpper, upperOf}
-use Rattle.working_order.specs.Order.{maxHeaters}
+use Rattle.working_order.specs.Order.{maxHeaters, threeEach}
 use Rattle.tank_model.specs.declared.Heater.{Heater}
 use Rattle.tank_model.specs.declared.HeaterLine.{HeaterLine}
 use Rattle.tank_model.specs.declared.Setting.{Setting}
@@ -23,7 +23,7 @@ use Rattle.tank_model.specs.declared.Step.{Step}
 use Rattle.tank_model.specs.Fixed.{noHeater}
 use Rattle.tank_model.specs.Checks.{noSetting}
 use Rattle.tank_model.specs.Work.{zeroLine}
-use Rattle.tank_arrays.specs.Arrays.{twoEach, threeEach, heaterIn, fittedIn, heatersOf, thermostatsOf, pointsIn, settingIn, settingsIn, hasLower, lowerOf, presentOf, setPointsOf, lineIn, linesIn, HoldsLines, ZeroLines, stepWith}
+use Rattle.tank_arrays.specs.Arrays.{twoEach, heaterIn, fittedIn, heatersOf, thermostatsOf, pointsIn, settingIn, settingsIn, hasLower, lowerOf, presentOf, setPointsOf, lineIn, linesIn, HoldsLines, ZeroLines, stepWith}
 
 -- ---- a list is the list of its places
 

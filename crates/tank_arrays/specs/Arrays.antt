@@ -12,7 +12,7 @@ use Rattle.cylinder.specs.declared.Cylinder.{Cylinder}
 use Rattle.heating.specs.declared.SetPoints.{SetPoints}
 use Rattle.heating.specs.declared.SetPoints.the-variants.{Neither, Lower, Upper, Both}
 use Rattle.heating.specs.SetPoints.{hasUpper, upperOf}
-use Rattle.working_order.specs.Order.{maxHeaters}
+use Rattle.working_order.specs.Order.{maxHeaters, threeEach, positionIn}
 use Rattle.tank_model.specs.declared.Heater.{Heater}
 use Rattle.tank_model.specs.declared.HeaterLine.{HeaterLine}
 use Rattle.tank_model.specs.declared.Setting.{Setting}
@@ -20,17 +20,19 @@ use Rattle.tank_model.specs.declared.Step.{Step}
 use Rattle.tank_model.specs.Fixed.{noHeater, Fixed, placedHeaters, fixedBy}
 use Rattle.tank_model.specs.Checks.{noSetting}
 
--- a number for each heater, two of them one after the other, and three: `TWO_EACH` and `THREE_EACH` of the code
+-- a number for each heater, two of them one after the other: `TWO_EACH` of the code
 abbrev pub twoEach : ℕ
 twoEach = 2 * maxHeaters
-
-abbrev pub threeEach : ℕ
-threeEach = 3 * maxHeaters
 
 -- ---- heaters: rated powers, then positions, then thermostat positions; and whether a thermostat has a position of its own
 
 abbrev pub heaterIn : List Float → List Bool → ℕ → Heater
-heaterIn xs bs h = record { rated = getD xs h nan; position = getD xs (maxHeaters + h) nan; «has_thermostat» = getD bs h false; thermostat = getD xs (twoEach + h) nan }
+heaterIn xs bs h = record {
+  rated = getD xs h nan;
+  position = positionIn xs h;
+  «has_thermostat» = getD bs h false;
+  thermostat = getD xs (twoEach + h) nan;
+}
 
 unfoldable pub fittedIn : List Float → List Bool → List Heater
 fittedIn xs bs = tabulate (heaterIn xs bs) maxHeaters 0
@@ -53,7 +55,10 @@ pointsIn true false lower upper = Lower lower
 pointsIn true true lower upper = Both lower upper
 
 abbrev pub settingIn : List Bool → List Float → ℕ → Setting
-settingIn present points h = record { points = pointsIn (getD present h false) (getD present (maxHeaters + h) false) (getD points h nan) (getD points (maxHeaters + h) nan) }
+settingIn present points h =
+    let lower = getD points h nan in
+    let upper = getD points (maxHeaters + h) nan in
+    record { points = pointsIn (getD present h false) (getD present (maxHeaters + h) false) lower upper }
 
 unfoldable pub settingsIn : List Bool → List Float → List Setting
 settingsIn present points = tabulate (settingIn present points) maxHeaters 0
@@ -84,7 +89,13 @@ setPointsOf xs =
 -- ---- a report's lines: adjusted inputs, then energies supplied, then losses; their flags; their rounds
 
 abbrev pub lineIn : List Float → List Bool → List ℕ → ℕ → HeaterLine
-lineIn xs flags rounds h = record { flag = getD flags h false; adjusted = getD xs h nan; supplied = getD xs (maxHeaters + h) nan; losses = getD xs (twoEach + h) nan; rounds = getD rounds h 0 }
+lineIn xs flags rounds h = record {
+  flag = getD flags h false;
+  adjusted = getD xs h nan;
+  supplied = getD xs (maxHeaters + h) nan;
+  losses = getD xs (twoEach + h) nan;
+  rounds = getD rounds h 0;
+}
 
 unfoldable pub linesIn : List Float → List Bool → List ℕ → List HeaterLine
 linesIn xs flags rounds = tabulate (lineIn xs flags rounds) maxHeaters 0

@@ -1,12 +1,14 @@
 // Heaters, set points and a report's lines in plain arrays: a step lends these to its parts, where structs would be copied.
 ghost use mathlib.Core.Path.{_≡_};
-ghost use Prim.Native.Nat.{_+_, _<_};
-ghost use lib.ListN.{getD, length, set};
+ghost use Prim.Native.Nat.{_<_};
+ghost use lib.ListN.{getD, length};
 ghost use Rattle.heating.specs.SetPoints.{hasUpper, upperOf};
 ghost use Rattle.working_order.specs.Order.{maxHeaters};
 ghost use Rattle.tank_model.specs.Fixed.{noHeater};
 ghost use Rattle.tank_model.specs.Checks.{noSetting};
-ghost use Rattle.tank_arrays.specs.Arrays.{fittedIn, heatersOf, thermostatsOf, pointsIn, settingsIn, hasLower, lowerOf, presentOf, setPointsOf, lineIn, linesIn, HoldsLines};
+ghost use Rattle.tank_arrays.specs.Arrays.{fittedIn, heatersOf, thermostatsOf, pointsIn, settingsIn, hasLower, lowerOf, presentOf, setPointsOf};
+ghost use Rattle.tank_arrays.specs.Arrays.{lineIn, linesIn, HoldsLines};
+ghost use Rattle.tank_arrays.specs.Contracts.{LineWritten};
 use heating::SetPoints;
 use tank_model::Heater;
 use tank_model::HeaterLine;
@@ -14,7 +16,7 @@ use tank_model::Setting;
 use working_order::MAX_HEATERS;
 
 // A number for each heater, three of them one after the other; and two of them.
-pub const THREE_EACH: usize = 3 * MAX_HEATERS;
+pub const THREE_EACH: usize = working_order::THREE_EACH;
 
 pub const TWO_EACH: usize = 2 * MAX_HEATERS;
 
@@ -69,7 +71,7 @@ pub fn write_line(
     rounds: &mut [usize; MAX_HEATERS],
 )
     requires { ⌜ (h < maxHeaters) × HoldsLines (now figures) (now flags) (now rounds) ⌝ }
-    ensures { λ r. ⌜ (linesIn (now (figures .exit)) (now (flags .exit)) (now (rounds .exit)) ≡ set (linesIn (now (figures .entry)) (now (flags .entry)) (now (rounds .entry))) h x) × HoldsLines (now (figures .exit)) (now (flags .exit)) (now (rounds .exit)) ⌝ }
+    ensures { λ r. ⌜ LineWritten h x (linesIn (now (figures .entry)) (now (flags .entry)) (now (rounds .entry))) (now (figures .exit)) (now (flags .exit)) (now (rounds .exit)) ⌝ }
 {
     figures[h] = x.adjusted;
     figures[MAX_HEATERS + h] = x.supplied;

@@ -35,17 +35,6 @@ fn is_position(x: f64) -> bool
     if 0.0 <= x { x < 1.0 } else { false }
 }
 
-// Where the thermostat sits: with its heater, if it has no position of its own.
-pub fn thermostat_position(h: Heater) -> f64
-    ensures { λ r. ⌜ r ≡ placed h .thermostat ⌝ }
-{
-    if h.has_thermostat {
-        h.thermostat
-    } else {
-        h.position
-    }
-}
-
 // ---- of a tank, or of what one is made from
 
 // 1.
@@ -118,7 +107,7 @@ pub fn heater_check(x: Heater) -> u8
     if !is_position(x.position) {
         return 5;
     }
-    if is_position(thermostat_position(x)) {
+    if is_position(tank_model::thermostat_position(x)) {
         0
     } else {
         5

@@ -1,18 +1,17 @@
 // What make and a step are refused for before they work: the first of the checks 1 to 8 that does not pass, and 0 where all pass. A check more is a line more in
 // the function that goes through them.
 ghost use mathlib.Core.Path.{_≡_};
-ghost use mathlib.Core.Bool.{Bool, _&&_};
-ghost use mathlib.Core.List.{List};
+ghost use mathlib.Core.Bool.{_&&_};
 ghost use Prim.Native.Nat.{_≤_};
 ghost use lib.Dec.{leb};
-ghost use lib.ListN.{length};
 ghost use Rattle.mixing.specs.Limits.{maxLayers};
 ghost use Rattle.cylinder.specs.Layers.{allFinite};
 ghost use Rattle.working_order.specs.Order.{maxHeaters};
-ghost use Rattle.tank_model.specs.Fixed.{Fixed, fixedOf};
+ghost use Rattle.tank_model.specs.Fixed.{fixedOf};
 ghost use Rattle.tank_model.specs.FirstRefusal.{firstRefusal};
-ghost use Rattle.tank_model.specs.Checks.{tankChecks, stepChecks, makeRefusal, stepRefusal};
+ghost use Rattle.tank_model.specs.Checks.{tankChecks, makeRefusal};
 ghost use Rattle.tank_arrays.specs.Arrays.{fixedWith, stepWith};
+ghost use Rattle.tank_arrays.specs.Contracts.{FirstOfStep, RefusedFor};
 use crate::arrays::THREE_EACH;
 use crate::arrays::TWO_EACH;
 use cylinder::Cylinder;
@@ -75,7 +74,7 @@ fn step_refusal(
     points: &[f64; TWO_EACH],
 ) -> u8
     requires { ⌜ n ≤ maxHeaters ⌝ }
-    ensures { λ r. ⌜ ((f : Fixed) → length (f .heaters) ≡ n → r ≡ firstRefusal (stepChecks f (stepWith feed events (now (volumes .entry)) entries (now (present .entry)) (now (points .entry))))) ⌝ }
+    ensures { λ r. ⌜ FirstOfStep n (stepWith feed events (now (volumes .entry)) entries (now (present .entry)) (now (points .entry))) r ⌝ }
 {
     let counts = crate::checks::counts_check(n, events, entries);
     if counts != 0 {
@@ -123,7 +122,7 @@ pub fn lent_refusal(
     present: &[bool; TWO_EACH],
     points: &[f64; TWO_EACH],
 ) -> u8
-    ensures { λ r. ⌜ ((flags : List Bool) → r ≡ stepRefusal (fixedWith c n (now (heaters .entry)) (now (thermostats .entry))) (record { temps = now (temps .entry); flags = flags }) (stepWith feed events (now (volumes .entry)) entries (now (present .entry)) (now (points .entry)))) ⌝ }
+    ensures { λ r. ⌜ RefusedFor (fixedWith c n (now (heaters .entry)) (now (thermostats .entry))) (now (temps .entry)) (stepWith feed events (now (volumes .entry)) entries (now (present .entry)) (now (points .entry))) r ⌝ }
 {
     let finite = are_stored_finite(c.layers, temps);
     let k = tank_refusal(c, n, heaters, thermostats, finite);

@@ -12,7 +12,6 @@ use lib.Ieee.Bits.{is-true}
 use Rattle.numeric.specs.Double.{_⊖_, zero-f}
 use Rattle.numeric.specs.Compare.{minOf2, maxOf2}
 use Rattle.numeric.specs.Close.{wideClose, narrowClose}
-use Rattle.numeric.specs.Whole.{layerOf}
 use Rattle.mixing.specs.Rearrange.{Mixing, sorted, unsorted}
 use Rattle.cylinder.specs.Layers.{layerVolume, layerVolumes}
 use Rattle.heating.specs.declared.SetPoints.{SetPoints}
@@ -31,7 +30,7 @@ use Rattle.immersion_heater.specs.SupplyLaws.{supply-at-most, supply-off}
 use Rattle.working_order.specs.Order.{maxHeaters}
 use Rattle.tank_model.specs.declared.TankDesign.{TankDesign}
 use Rattle.tank_model.specs.declared.Step.{Step}
-use Rattle.tank_model.specs.Fixed.{Placed, fixedOf}
+use Rattle.tank_model.specs.Fixed.{Placed, immersed, fixedOf}
 use Rattle.tank_model.specs.Checks.{isPositive, notNegative, pointsOf}
 use Rattle.tank_model.specs.Work.{Progress, Turn, endBy, turnOf, afterTurn, heaterTurn}
 use Rattle.tank_model.specs.Arguments.{cylinderOf, volumesOf, ratedOf, heaterLayer, thermostatLayer, maxEnergy, HasUpper, AtOrUnderLower, UpperMissingOrReached}
@@ -121,7 +120,7 @@ module _ (m : TankDesign) (a : Step) where
 
   turn-is : (h : ℕ) (s : Progress) → h < m .heaters → turnOf (fixedOf m) a h s ≡ turnBy h s (immersion h)
   unfolding turnOf layerVolumes layerVolume
-  turn-is h s l = ap (λ (y : Placed). turnBy h s (record { rated = y .rated; layer = layerOf (y .position) (m .layers); thermostat = layerOf (y .thermostat) (m .layers) })) (heater-is m h l)
+  turn-is h s l = ap (λ (y : Placed). turnBy h s (immersed (m .layers) y)) (heater-is m h l)
 
   -- whether it runs, and what its mixing comes to
   abbrev runs : ℕ → Progress → Bool

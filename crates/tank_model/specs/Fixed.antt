@@ -4,6 +4,7 @@ use mathlib.Core.Bool.{Bool, false, cond}
 use mathlib.Core.List.{List}
 use lib.ListN.{getD}
 use lib.Ieee.{Float, nan}
+use Rattle.numeric.specs.Double.{zero-f}
 use Rattle.numeric.specs.Tabulate.{tabulate}
 use Rattle.numeric.specs.Whole.{layerOf}
 use Rattle.cylinder.specs.declared.Cylinder.{Cylinder}
@@ -25,6 +26,10 @@ placed x = record { rated = x .rated; position = x .position; thermostat = cond 
 abbrev pub noHeater : Heater
 noHeater = record { rated = nan; position = nan; «has_thermostat» = false; thermostat = nan }
 
+-- a heater of zeros, in a place that is not used
+abbrev pub zeroHeater : Heater
+zeroHeater = record { rated = zero-f; position = zero-f; «has_thermostat» = false; thermostat = zero-f }
+
 abbrev pub notPlaced : Placed
 notPlaced = record { rated = nan; position = nan; thermostat = nan }
 
@@ -41,13 +46,16 @@ pub record Fixed : Type 0 where
 abbrev pub heaterOf : Fixed → ℕ → Placed
 heaterOf f h = getD (f .heaters) h notPlaced
 
--- a heater with the layers that a step finds for it: position × layers cut to a whole number
-abbrev pub immersionOf : Fixed → ℕ → Immersion
-immersionOf f h = record {
-  rated = heaterOf f h .rated;
-  layer = layerOf (heaterOf f h .position) (f .cylinder .layers);
-  thermostat = layerOf (heaterOf f h .thermostat) (f .cylinder .layers);
+-- a heater with the layers that a step finds for it in a tank of n: position × layers cut to a whole number
+abbrev pub immersed : ℕ → Placed → Immersion
+immersed n x = record {
+  rated = x .rated;
+  layer = layerOf (x .position) n;
+  thermostat = layerOf (x .thermostat) n;
 }
+
+abbrev pub immersionOf : Fixed → ℕ → Immersion
+immersionOf f h = immersed (f .cylinder .layers) (heaterOf f h)
 
 -- what a step changes: the layers, in the first of these places, and the flags
 pub record State : Type 0 where

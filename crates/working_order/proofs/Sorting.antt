@@ -8,9 +8,8 @@ use native.Mathlib.Omega.{arith}
 use lib.ListN.{length, take, drop, replicate, length-append, length-drop, length-replicate, replicate-append-replicate, take-append-drop}
 use lib.Seq.{slice, slice-empty, length-take-le, length-slice, take-at, drop-at, getD-drop, getD-take}
 use Rattle.numeric.specs.Tabulate.{tabulate, length-tabulate}
-use Rattle.working_order.specs.Order.{maxHeaters, indices, insert, insertionSort}
+use Rattle.working_order.specs.Order.{maxHeaters, indices, insert, insertionSort, NumbersFrom, withHeater}
 use Rattle.working_order.proofs.Entries.{below-at, insert-length, sort-length, sort-below, indices-below}
-use Rattle.working_order.proofs.Insert.{NumbersFrom, withHeater}
 
 zeros-left : (n : ℕ) → n ≤ maxHeaters → drop {A = ℕ} n (replicate maxHeaters 0) ≡ replicate (maxHeaters - n) 0
 zeros-left n l =

@@ -11,8 +11,8 @@ use Rattle.numeric.specs.Copy.{copied}
 use Rattle.numeric.proofs.Filling.{tabulated-next, tabulated-end}
 use Rattle.working_order.specs.Order.{maxHeaters}
 use Rattle.tank_model.specs.declared.Heater.{Heater}
-use Rattle.tank_model.specs.Fixed.{noHeater}
-use Rattle.storage_tank.specs.Calls.{zeroHeater, cleanHeater, fittedHeaters}
+use Rattle.tank_model.specs.Fixed.{noHeater, zeroHeater}
+use Rattle.storage_tank.specs.Calls.{cleanHeater, fittedHeaters}
 use borrow.Author.Needs.{needs}
 use Rattle.storage_tank.proofs.make.fitted_heaters.Statement.{statement}
 use Rattle.storage_tank.proofs.make.fitted_heaters.Tie as tie

@@ -1,7 +1,7 @@
--- `immersion_of` meets its contract.
+-- `immersion_of` meets its contract (01, Tank): one cut for the heater's layer and one for its thermostat's.
 use borrow.Author.Needs.{needs}
-use Rattle.step_work.proofs.turns.immersion_of.Statement.{statement}
-use Rattle.step_work.proofs.turns.immersion_of.Tie as tie
+use Rattle.tank_model.proofs.immersion_of.Statement.{statement}
+use Rattle.tank_model.proofs.immersion_of.Tie as tie
 
 layer-of-requires : tie.Need-layer-of-requires
 layer-of-requires c κs = search needs
