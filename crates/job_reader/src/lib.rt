@@ -4,7 +4,7 @@ pub mod fields;
 pub mod read;
 pub mod reader;
 
-use draw_off::event::MAX_EVENTS;
+use draw_events::event::MAX_EVENTS;
 use tank_model::Heater;
 use tank_model::Setting;
 use working_order::MAX_HEATERS;

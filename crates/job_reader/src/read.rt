@@ -15,7 +15,7 @@ use crate::TankRecord;
 use crate::bytes::f64_at;
 use crate::bytes::u16_at;
 use crate::bytes::u32_at;
-use draw_off::event::MAX_EVENTS;
+use draw_events::event::MAX_EVENTS;
 use heating::SetPoints;
 use tank_model::Heater;
 use tank_model::Setting;

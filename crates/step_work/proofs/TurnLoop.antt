@@ -11,8 +11,8 @@ use lib.Ieee.{Float, nan}
 use Rattle.numeric.specs.Tabulate.{tabulate, at-tabulate}
 use Rattle.numeric.specs.Whole.{layerOf}
 use Rattle.cylinder.specs.declared.Cylinder.{Cylinder}
-use Rattle.draw_off.specs.declared.Totals.{Totals}
-use Rattle.draw_off.specs.Event.{Event}
+use Rattle.draw_events.specs.declared.Totals.{Totals}
+use Rattle.draw_events.specs.Event.{Event}
 use Rattle.heating.specs.Turn.{Turned, turn, turnNumber}
 use Rattle.working_order.specs.Order.{maxHeaters, risingOrder}
 use Rattle.working_order.proofs.Same.{rising-same}

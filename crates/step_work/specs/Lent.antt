@@ -9,7 +9,7 @@ use lib.Ieee.{Float}
 use Rattle.numeric.specs.Double.{_⊕_, zero-f}
 use Rattle.numeric.specs.Whole.{layerOf}
 use Rattle.cylinder.specs.declared.Cylinder.{Cylinder}
-use Rattle.draw_off.specs.declared.Totals.{Totals}
+use Rattle.draw_events.specs.declared.Totals.{Totals}
 use Rattle.heating.specs.declared.turn.Immersion.{Immersion}
 use Rattle.heating.specs.Turn.{Turned, turnNumber}
 use Rattle.working_order.specs.Order.{maxHeaters}

@@ -6,7 +6,7 @@ ghost use Prim.Native.Nat.{ℕ, _≤_};
 ghost use lib.Dec.{leb, eqb};
 ghost use lib.ListN.{getD};
 ghost use Rattle.numeric.specs.Holds.{holds};
-ghost use Rattle.draw_off.specs.Lent.{maxEvents};
+ghost use Rattle.draw_events.specs.Lent.{maxEvents};
 ghost use Rattle.working_order.specs.Order.{maxHeaters};
 ghost use Rattle.tank_model.specs.Fixed.{placed, noHeater, fixedOf};
 ghost use Rattle.tank_model.specs.Checks.{unless, firstRefusal, fairHeater, layersCheck, numbersCheck, temperaturesCheck, feedCheck, pointsCheck, makeRefusal, stepRefusal};
@@ -14,7 +14,7 @@ ghost use Rattle.tank_arrays.specs.Arrays.{fittedIn, fixedWith, stepWith
 use crate::arrays::THREE_EACH;
 use crate::arrays::TWO_EACH;
 use cylinder::Cylinder;
-use draw_off::event::MAX_EVENTS;
+use draw_events::event::MAX_EVENTS;
 use mixing::limits::MAX_LAYERS;
 use tank_model::TankDesign;
 use working_order::MAX_HEATERS;

@@ -1,6 +1,6 @@
 // What a tank is made from, what a step asks of it, and what it reports of a heater. The work of a step, and of a list of calls, is defined over these (`specs/`).
 // A count may be any number; what is past it in an array is not looked at.
-use draw_off::event::MAX_EVENTS;
+use draw_events::event::MAX_EVENTS;
 use heating::SetPoints;
 use working_order::MAX_HEATERS;
 
