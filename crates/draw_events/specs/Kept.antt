@@ -12,7 +12,7 @@ use Rattle.draw_events.specs.declared.kept.KeptSum.{KeptSum}
 
 -- Sum2 of the first n places, before its correction is added
 unfoldable pub sumOfFirst : List Float → ℕ → Accumulator
-sumOfFirst xs n = turns (sumTurn (λ (k : ℕ). getD xs k nan)) n 0 nothing-added
+sumOfFirst xs n = iterate (addAt (λ (k : ℕ). getD xs k nan)) n 0 nothing-added
 
 -- the kept sum is that of so many places of xs
 abbrev pub IsSumOf : List Float → KeptSum → Type 0

@@ -44,7 +44,7 @@ module _ (c : Cylinder) (feed : Feed) (temps : List Float) (wanted : Float) wher
 
     pub left-layer : (i : ℕ) (d e : Draw) → LayersLeft i d → 0 < i → noVolume (d .rest) ≡ false → e ≡ drawLayer c feed temps wanted (i - 1) d → LayersLeft (i - 1) e
     left-layer i d e l h some drawn = record {
-      descent = rw drawn (descent-turn restNone (drawLayer c feed temps wanted) n d₀ i d h some (l .descent));
+      descent = rw drawn (descent-next restNone (drawLayer c feed temps wanted) n d₀ i d h some (l .descent));
       reach = rw drawn ((rw some at (sym (reach-step i d h))) ∙ l .reach);
     }
 

@@ -8,7 +8,7 @@ use mathlib.Core.List.{List}
 use lib.ListN.{set}
 use lib.Seq.{getD-set-other}
 use lib.Ieee.{Float, nan}
-use Rattle.numeric.specs.Descent.{Descent, descent-turn}
+use Rattle.numeric.specs.Descent.{Descent, descent-next}
 use Rattle.cylinder.specs.Layers.{noVolume}
 use Rattle.draw_off.specs.declared.cold.Feed.{Feed}
 use Rattle.refill.specs.Refill.{Filling, Refill, takeShare, takeFrom, takeBelow, fromFeed, entersWarmer, lackOf, fillingOf, refillLayer}
@@ -38,6 +38,6 @@ module _ (vol : List Float) (feed : Feed) (before : List Float) (n : ℕ) (start
   left-turn i held temps mixes given x b l h some filled =
       let w = l .descent .0 in
       record {
-        descent = rw (filled, layer-same vol feed temps before (i - 1) (refillOf held temps mixes) (λ k u. l .same k (omega arith))) (descent-turn _ _ n start i (refillOf held temps mixes) h some (l .descent));
+        descent = rw (filled, layer-same vol feed temps before (i - 1) (refillOf held temps mixes) (λ k u. l .same k (omega arith))) (descent-next _ _ n start i (refillOf held temps mixes) h some (l .descent));
         same = λ k u. getD-set-other temps (i - 1) k x nan (λ q. omega arith) ∙ l .same k (omega arith);
       }

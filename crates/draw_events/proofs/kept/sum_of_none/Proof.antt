@@ -9,7 +9,7 @@ start-requires : tie.Need-start-requires
 start-requires c κs = search needs
 
 returns : tie.Need-returns
-unfolding sumOfFirst turns
+unfolding sumOfFirst iterate
 returns c = λ xs. c .start .ensures
 
 pub sum-of-none-spec : {M : Type 1} → statement M

@@ -92,7 +92,7 @@ filling-again c =
     let at = test .before .filling in
     let a = test .before .before .before .before .args in
     let over = first .before .is-over-full .ensures (first .if1 .taken) in (
-      left-turn (a .vol .now) (a .feed) (a .temps .now) _ _ _ _ _ (at .mixes) _ _ (at .mixes) (at .inv .0) (test .filling-test .taken) (over .upper .repeats .some) (layer-repeated _ _ _ (at .kept) over (a .feed) _ (at .mixes)),
+      left-next (a .vol .now) (a .feed) (a .temps .now) _ _ _ _ _ (at .mixes) _ _ (at .mixes) (at .inv .0) (test .filling-test .taken) (over .upper .repeats .some) (layer-repeated _ _ _ (at .kept) over (a .feed) _ (at .mixes)),
       λ e. repeats-next _ _ _ (at .kept) over,
     )
 
