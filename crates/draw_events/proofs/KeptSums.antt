@@ -6,8 +6,8 @@ use mathlib.Core.List.{List}
 use lib.ListN.{getD}
 use lib.Ieee.{Float, nan}
 use Rattle.numeric.specs.declared.sum2.Accumulator.{Accumulator}
-use Rattle.numeric.specs.Turns.{turns, turns-split}
-use Rattle.numeric.specs.Sum2.{accumulate, nothing-added, sumTurn}
+use Rattle.numeric.specs.Iterate.{iterate, iterate-split}
+use Rattle.numeric.specs.Sum2.{accumulate, nothing-added, addAt}
 use Rattle.cylinder.specs.declared.Cylinder.{Cylinder}
 use Rattle.draw_off.specs.declared.cold.Feed.{Feed}
 use Rattle.draw_off.specs.declared.draw.Drawn.{Drawn}
@@ -19,8 +19,8 @@ use Rattle.draw_events.specs.Kept.{sumOfFirst, IsSumOf}
 
 -- ---- the sum of layers that are as they were
 module _ (xs ys : List Float) (n : ℕ) (same : SameBelow n xs ys) where
-  terms-same : (k i : ℕ) (a : Accumulator) → i + k ≤ n → turns (sumTurn (λ (j : ℕ). getD xs j nan)) k i a ≡ turns (sumTurn (λ (j : ℕ). getD ys j nan)) k i a
-  unfolding turns
+  terms-same : (k i : ℕ) (a : Accumulator) → i + k ≤ n → iterate (addAt (λ (j : ℕ). getD xs j nan)) k i a ≡ iterate (addAt (λ (j : ℕ). getD ys j nan)) k i a
+  unfolding iterate
   terms-same zero i a h = refl
   terms-same (suc k) i a h = rw (same i (omega arith)) (terms-same k (i + 1) (accumulate a (getD ys i nan)) (omega arith))
 
@@ -39,10 +39,10 @@ module _ (c : Cylinder) (feed : Feed) (temps : List Float) (wanted : Float) (vol
       (omega (arith, draws .1, sum .0), sum-moved held vol (d .untouched) left kept (sum .0) (sum .1))
 
 -- from a kept sum on, the other layers give the sum of all
-pub sum-finished : (xs : List Float) (kept : KeptSum) (n : ℕ) → kept .layers ≤ n → IsSumOf xs kept → turns (sumTurn (λ (j : ℕ). getD xs j nan)) (n - kept .layers) (kept .layers) (kept .sum) ≡ turns (sumTurn (λ (j : ℕ). getD xs j nan)) n 0 nothing-added
+pub sum-finished : (xs : List Float) (kept : KeptSum) (n : ℕ) → kept .layers ≤ n → IsSumOf xs kept → iterate (addAt (λ (j : ℕ). getD xs j nan)) (n - kept .layers) (kept .layers) (kept .sum) ≡ iterate (addAt (λ (j : ℕ). getD xs j nan)) n 0 nothing-added
 unfolding sumOfFirst
 sum-finished xs kept n h s =
-    let g = sumTurn (λ (j : ℕ). getD xs j nan) in
+    let g = addAt (λ (j : ℕ). getD xs j nan) in
     let e : n ≡ kept .layers + (n - kept .layers) = omega arith in
     let z : 0 + kept .layers ≡ kept .layers = omega arith in
-    rw s (sym (ap (λ (m : ℕ). turns g m 0 nothing-added) e ∙ turns-split g (kept .layers) (n - kept .layers) 0 nothing-added ∙ ap (λ (m : ℕ). turns g (n - kept .layers) m (turns g (kept .layers) 0 nothing-added)) z))
+    rw s (sym (ap (λ (m : ℕ). iterate g m 0 nothing-added) e ∙ iterate-split g (kept .layers) (n - kept .layers) 0 nothing-added ∙ ap (λ (m : ℕ). iterate g (n - kept .layers) m (iterate g (kept .layers) 0 nothing-added)) z))

@@ -6,8 +6,8 @@ use mathlib.Core.List.{List}
 use lib.ListN.{getD}
 use lib.Ieee.{Float, nan}
 use Rattle.numeric.specs.declared.sum2.Accumulator.{Accumulator}
-use Rattle.numeric.specs.Turns.{turns}
-use Rattle.numeric.specs.Sum2.{nothing-added, sumTurn}
+use Rattle.numeric.specs.Iterate.{iterate}
+use Rattle.numeric.specs.Sum2.{nothing-added, addAt}
 use Rattle.draw_events.specs.declared.kept.KeptSum.{KeptSum}
 
 -- Sum2 of the first n places, before its correction is added

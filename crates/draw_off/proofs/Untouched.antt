@@ -9,7 +9,7 @@ use lib.ListN.{getD}
 use lib.Seq.{getD-set-other}
 use lib.Ieee.{Float, nan, lt}
 use Rattle.numeric.specs.Double.{zero-f}
-use Rattle.numeric.specs.Descent.{Descent, chosen, descent-start, descent-turn}
+use Rattle.numeric.specs.Descent.{Descent, chosen, descent-start, descent-next}
 use Rattle.cylinder.specs.declared.Cylinder.{Cylinder}
 use Rattle.cylinder.specs.Layers.{noVolume}
 use Rattle.draw_off.specs.declared.cold.Feed.{Feed}

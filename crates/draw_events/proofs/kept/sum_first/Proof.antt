@@ -2,8 +2,8 @@
 use Prim.Native.Nat.{ℕ, _-_}
 use lib.ListN.{getD}
 use lib.Ieee.{nan}
-use Rattle.numeric.specs.Turns.{Rest, rest-start, rest-turn, rest-end}
-use Rattle.numeric.specs.Sum2.{sumTurn}
+use Rattle.numeric.specs.Iterate.{Rest, rest-start, rest-next, rest-end}
+use Rattle.numeric.specs.Sum2.{addAt}
 use Rattle.draw_events.specs.Kept.{sumOfFirst}
 use borrow.Author.Needs.{needs}
 use Rattle.draw_events.proofs.kept.sum_first.Statement.{statement}

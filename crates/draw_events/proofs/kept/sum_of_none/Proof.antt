@@ -1,5 +1,5 @@
 -- `kept::sum_of_none` meets its contract (01, Draw): nothing is added.
-use Rattle.numeric.specs.Turns.{turns}
+use Rattle.numeric.specs.Iterate.{iterate}
 use Rattle.draw_events.specs.Kept.{sumOfFirst}
 use borrow.Author.Needs.{needs}
 use Rattle.draw_events.proofs.kept.sum_of_none.Statement.{statement}

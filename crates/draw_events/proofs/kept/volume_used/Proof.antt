@@ -2,8 +2,8 @@
 use Prim.Native.Nat.{ℕ, _-_}
 use lib.ListN.{getD}
 use lib.Ieee.{nan}
-use Rattle.numeric.specs.Turns.{Span, span-start, span-turn, span-end}
-use Rattle.numeric.specs.Sum2.{sumTurn, sum2-turns}
+use Rattle.numeric.specs.Iterate.{Span, span-start, span-next, span-end}
+use Rattle.numeric.specs.Sum2.{addAt, sum2-iterate}
 use Rattle.draw_off.specs.Draw.{volumeUsed}
 use Rattle.draw_events.proofs.KeptSums.{sum-finished}
 use borrow.Author.Needs.{needs}

@@ -5,13 +5,13 @@ use native.Mathlib.Omega.{arith}
 use mathlib.Core.Path.{_≡_, refl, sym, _∙_}
 use mathlib.Core.Bool.{true}
 use mathlib.Core.Logic.{⊎-elim}
-use Rattle.numeric.specs.Descent.{Descent, descent-start, descent-turn, descent-stop, descent-end}
+use Rattle.numeric.specs.Descent.{Descent, descent-start, descent-next, descent-stop, descent-end}
 use Rattle.refill.specs.Refill.{takeFrom, refill}
 use Rattle.refill.specs.Lent.{fillingWith, refillOf}
 use Rattle.refill.specs.Repeats.{RepeatsAt}
 use Rattle.refill.proofs.Descents.{lackNone, refill-descends}
 use Rattle.refill.proofs.Filled.{lack-told, layer-refilled, mixes-now, mixes-still}
-use Rattle.refill.proofs.Refilling.{RefillLeft, left-turn}
+use Rattle.refill.proofs.Refilling.{RefillLeft, left-next}
 use Rattle.refill.proofs.Repeating.{layer-repeated, repeats-next}
 use borrow.Author.Needs.{needs}
 use Rattle.refill.proofs.layers.calc_temps_after_extraction.Statement.{statement}
@@ -143,7 +143,7 @@ donors-again : tie.Need-donors-again Inv-donors μ-donors Inv-filling μ-filling
 donors-again c =
     let none = c .before .before .before in
     let test = none .before .before in
-    rw (c .take-from .ensures) (descent-turn _ _ _ _ _ _ (test .donors-test .taken) (sym (none .before .is-no-volume2 .ensures) ∙ none .if3 .left) (test .before .donors .inv))
+    rw (c .take-from .ensures) (descent-next _ _ _ _ _ _ (test .donors-test .taken) (sym (none .before .is-no-volume2 .ensures) ∙ none .if3 .left) (test .before .donors .inv))
 
 does-enter-warmer-requires :
     tie.Need-does-enter-warmer-requires Inv-donors μ-donors Inv-filling μ-filling
@@ -183,7 +183,7 @@ filling-again-2 c =
     let at = test .before .filling in
     let a = test .before .before .before .before .args in
     let warmer = warm .does-enter-warmer .ensures (donors .donors .held) in (
-      left-turn (a .vol .now) (a .feed) (a .temps .now) _ _ _ _ _ (at .mixes) _ _ _ (at .inv .0) (test .filling-test .taken)
+      left-next (a .vol .now) (a .feed) (a .temps .now) _ _ _ _ _ (at .mixes) _ _ _ (at .inv .0) (test .filling-test .taken)
           (lack-told _ _ _ (start .start-filling .result) _ _ (start .start-filling .ensures) (none .before .is-no-volume .ensures) (none .if2 .left))
           (layer-refilled (a .vol .now) (a .feed) _ _ _ _ (at .mixes) (donors .donors .held) (start .start-filling .result) (donors .donors .f) (fed .take-from-feed .result) _ record {
             starts = start .start-filling .ensures;
