@@ -68,9 +68,9 @@ module _ (c : Cylinder) (feed : Feed) (temps : List Float) (wanted : Float) wher
   unreached zero d = zero
   unreached (suc i) d = cond (noVolume (d .rest)) (suc i) (unreached i (drawLayer i d))
 
-  -- a rest above zero, however small, comes from the feed
-  unfoldable pub drawFeed : Draw → Draw
-  drawFeed d = cond (lt zero-f (d .rest)) (counted c (d .rest) (feed .temperature) (cold feed (d .rest)) (d .held) (d .rest) d) d
+-- a rest above zero, however small, comes from the feed
+unfoldable pub drawFeed : Cylinder → Feed → Draw → Draw
+drawFeed c feed d = cond (lt zero-f (d .rest)) (counted c (d .rest) (feed .temperature) (cold feed (d .rest)) (d .held) (d .rest) d) d
 
 -- each event starts from full layers; `weighted` and `drawn` run through all events
 abbrev pub drawStart : List Float → Float → Float → Float → Draw
@@ -79,7 +79,7 @@ drawStart vol wanted weighted drawn = record { held = vol; rest = wanted; energy
 -- what an event has drawn: the layers, and then the feed
 unfoldable pub extract : Cylinder → List Float → Feed → List Float → Float → Float → Float → Draw
 extract c vol feed temps wanted weighted drawn =
-    drawFeed c feed temps wanted (drawLayers c feed temps wanted (c .layers) (drawStart vol wanted weighted drawn))
+    drawFeed c feed (drawLayers c feed temps wanted (c .layers) (drawStart vol wanted weighted drawn))
 
 -- how many layers, from the bottom, it leaves full
 unfoldable pub untouched : Cylinder → List Float → Feed → List Float → Float → Float → Float → ℕ

@@ -5,11 +5,9 @@ ghost use Prim.Native.Nat.{_≤_, _<_};
 ghost use lib.Ieee.{Float};
 ghost use Rattle.mixing.specs.Limits.{maxLayers};
 ghost use Rattle.draw_off.specs.Draw.{givesAll, share, restAfter, counted, drawShare, drawLayer, drawLayers, unreached, drawFeed};
-ghost use Rattle.draw_off.specs.Draw.{extract, untouched, volumeUsed};
+ghost use Rattle.draw_off.specs.Draw.{extract, untouched};
 ghost use Rattle.draw_off.specs.Lent.{drawOf};
-ghost use Rattle.draw_off.specs.Kept.{IsSumOf};
 use crate::cold::Feed;
-use crate::kept::KeptSum;
 use cylinder::Cylinder;
 use mixing::limits::MAX_LAYERS;
 
@@ -117,8 +115,10 @@ fn draw_layers(
     start: Drawn,
 ) -> Drawn
     requires { ⌜ c .layers ≤ maxLayers ⌝ }
-    ensures drawn { λ r. ⌜ drawOf (now (held .exit)) r ≡ drawLayers c feed (now (temps .entry)) wanted (c .layers) (drawOf (now (held .entry)) start) ⌝ }
-    ensures left { λ r. ⌜ r .untouched ≡ unreached c feed (now (temps .entry)) wanted (c .layers) (drawOf (now (held .entry)) start) ⌝ }
+    ensures drawn { λ r. ⌜ drawOf (now (held .exit)) r
+        ≡ drawLayers c feed (now (temps .entry)) wanted (c .layers) (drawOf (now (held .entry)) start) ⌝ }
+    ensures left { λ r. ⌜ r .untouched
+        ≡ unreached c feed (now (temps .entry)) wanted (c .layers) (drawOf (now (held .entry)) start) ⌝ }
 {
     let mut d = start;
     let mut i = c.layers;
@@ -134,7 +134,7 @@ fn draw_layers(
 
 // A rest above zero, however small, comes from the feed.
 fn draw_feed(c: Cylinder, feed: Feed, d: Drawn) -> Drawn
-    ensures { λ r. ⌜ ((held temps : List Float) (wanted : Float) → drawOf held r ≡ drawFeed c feed temps wanted (drawOf held d)) ⌝ }
+    ensures { λ r. ⌜ ((held : List Float) → drawOf held r ≡ drawFeed c feed (drawOf held d)) ⌝ }
 {
     if d.rest > 0.0 {
         return count_share(
@@ -176,19 +176,4 @@ pub fn extract_hot_water(
         untouched: d.untouched,
         ..all
     }
-}
-
-// The tank's volume less Sum2 of what the layers still hold; `kept` is that of the first of them.
-pub fn volume_used(c: Cylinder, held: &[f64; MAX_LAYERS], kept: KeptSum) -> f64
-    requires { ⌜ (c .layers ≤ maxLayers) × (kept .layers ≤ c .layers) × IsSumOf (now held) kept ⌝ }
-    ensures { λ r. ⌜ r ≡ volumeUsed c (now (held .entry)) ⌝ }
-{
-    let n = c.layers;
-    let mut a = kept.sum;
-    let mut k = kept.layers;
-    while k < n {
-        a = numeric::sum2::add_term(a, held[k]);
-        k += 1;
-    }
-    c.volume - numeric::sum2::total_of(a)
 }

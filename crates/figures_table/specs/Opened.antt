@@ -14,8 +14,8 @@ use Rattle.mixing.specs.Mix as Mix
 use Rattle.cylinder.specs.Layers as Layers
 use Rattle.draw_off.specs.Cold as Cold
 use Rattle.draw_off.specs.Draw as Draw
-use Rattle.draw_off.specs.Refill as Refill
-use Rattle.draw_off.specs.Event as Event
+use Rattle.refill.specs.Refill as Refill
+use Rattle.draw_events.specs.Event as Event
 use Rattle.heating.specs.SetPoints as SetPoints
 use Rattle.heating.specs.Heat as Heat
 use Rattle.heating.specs.Losses as Losses

@@ -4,7 +4,7 @@
 // example of docs/JOB_FORMAT.md. day/tests/test_documents.py works every line out again by compare/model.py.
 mod print;
 
-use draw_off::event::MAX_EVENTS;
+use draw_events::event::MAX_EVENTS;
 use heating::SetPoints;
 use job_reader::reader::read_at;
 use libc::STDIN_FILENO;

@@ -11,9 +11,9 @@ use lib.Ieee.{Float}
 use Rattle.numeric.specs.Double.{zero-f}
 use Rattle.mixing.specs.Limits.{maxLayers}
 use Rattle.cylinder.specs.declared.Cylinder.{Cylinder}
-use Rattle.draw_off.specs.declared.event.EventAnswer.{EventAnswer}
-use Rattle.draw_off.specs.Lent.{maxEvents, drawingOf}
-use Rattle.draw_off.specs.Event.{Event, Drawing, drawAll}
+use Rattle.draw_events.specs.declared.event.EventAnswer.{EventAnswer}
+use Rattle.draw_events.specs.Lent.{maxEvents, drawingOf}
+use Rattle.draw_events.specs.Event.{Event, Drawing, drawAll}
 use Rattle.immersion_heater.specs.Turn.{turnNumber}
 use Rattle.working_order.specs.Order.{maxHeaters}
 use Rattle.tank_model.specs.declared.Heater.{Heater}

@@ -156,7 +156,7 @@ pub fn step_turns(t: StorageTank, a: Step) -> Turns
     let water = Feed {
         temperature: a.feed,
     };
-    let d = draw_off::event::draw_events(c, &vol, water, a.events, &a.volumes, &mut temps, none);
+    let d = draw_events::event::draw_events(c, &vol, water, a.events, &a.volumes, &mut temps, none);
     if d.number != 0 {
         return no_turns();
     }

@@ -8,7 +8,7 @@ ghost use Rattle.job_records.specs.Records.{plainReading, refusedAt, tankAt, he
 ghost use Rattle.job_records.specs.Fields.{stepVolumesAt};
 ghost use Rattle.job_records.specs.Values.{numberIn};
 ghost use Rattle.job_records.specs.ReadValues.{RecordRead};
-use draw_off::event::MAX_EVENTS;
+use draw_events::event::MAX_EVENTS;
 use heating::SetPoints;
 use job_records::Reading;
 use job_records::Record;

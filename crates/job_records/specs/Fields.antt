@@ -7,7 +7,7 @@ use lib.ListN.{drop, replicate}
 use lib.Ieee.{Float}
 use Rattle.numeric.specs.Double.{zero-f}
 use Rattle.numeric.specs.Tabulate.{tabulate}
-use Rattle.draw_off.specs.Lent.{maxEvents}
+use Rattle.draw_events.specs.Lent.{maxEvents}
 use Rattle.heating.specs.declared.SetPoints.{SetPoints}
 use Rattle.heating.specs.declared.SetPoints.the-variants.{Neither, Lower, Upper, Both}
 use Rattle.working_order.specs.Order.{maxHeaters}

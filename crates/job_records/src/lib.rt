@@ -1,7 +1,7 @@
 // The records of a job: what each kind holds, numbers in its bytes, and the laws of which records are well formed. The crate `job_reader` reads them.
 pub mod bytes;
 
-use draw_off::event::MAX_EVENTS;
+use draw_events::event::MAX_EVENTS;
 use tank_model::Heater;
 use tank_model::Setting;
 use working_order::MAX_HEATERS;

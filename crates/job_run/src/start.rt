@@ -4,7 +4,7 @@ ghost use Prim.Native.Nat.{_<_};
 ghost use Rattle.working_order.specs.Order.{maxHeaters};
 ghost use Rattle.job_run.specs.Job.{noReport, designOf, withHeater, noDesign, startJob, stepOf};
 use crate::Job;
-use draw_off::event::MAX_EVENTS;
+use draw_events::event::MAX_EVENTS;
 use job_records::StepRecord;
 use job_records::TankRecord;
 use storage_tank::Report;

@@ -6,7 +6,7 @@ ghost use Rattle.working_order.specs.Order.{maxHeaters};
 ghost use Rattle.tank_model.specs.Checks.{noSetting};
 ghost use Rattle.tank_arrays.specs.Arrays.{settingsIn};
 ghost use Rattle.lent_tank.specs.Steps.{stepIn};
-use draw_off::event::MAX_EVENTS;
+use draw_events::event::MAX_EVENTS;
 use tank_model::Setting;
 use tank_model::Step;
 use working_order::MAX_HEATERS;

@@ -9,7 +9,7 @@ ghost use Rattle.lent_tank.specs.Reports.{reportIn, ReportWritten};
 ghost use Rattle.lent_tank.specs.Steps.{stepIn};
 ghost use Rattle.shim.specs.Answers.{MakeAnswered, StepAnswered, StepLeft};
 use cylinder::Cylinder;
-use draw_off::event::MAX_EVENTS;
+use draw_events::event::MAX_EVENTS;
 use mixing::MixAnswer;
 use mixing::limits::MAX_LAYERS;
 use step_work::work::WorkAnswer;

@@ -10,10 +10,10 @@ use Rattle.numeric.specs.Double.{dbl, _⊛_, _⊘_, zero-f}
 use Rattle.numeric.specs.Close.{wideClose}
 use Rattle.mixing.specs.Limits.{maxLayers}
 use Rattle.cylinder.specs.declared.Cylinder.{Cylinder}
-use Rattle.draw_off.specs.declared.Totals.{Totals}
-use Rattle.draw_off.specs.declared.event.EventAnswer.{EventAnswer}
-use Rattle.draw_off.specs.Lent.{drawingOf}
-use Rattle.draw_off.specs.Event.{Event, Drawing, drawAll}
+use Rattle.draw_events.specs.declared.Totals.{Totals}
+use Rattle.draw_events.specs.declared.event.EventAnswer.{EventAnswer}
+use Rattle.draw_events.specs.Lent.{drawingOf}
+use Rattle.draw_events.specs.Event.{Event, Drawing, drawAll}
 use Rattle.tank_model.specs.declared.HeaterLine.{HeaterLine}
 use Rattle.tank_model.specs.declared.Step.{Step}
 use Rattle.tank_model.specs.Fixed.{Fixed, State}

@@ -9,8 +9,8 @@ use lib.ListN.{getD, length, take, length-take, drop-of-length-le}
 use lib.Seq.{slice, slice-cons}
 use lib.Ieee.{Float}
 use Rattle.cylinder.specs.declared.Cylinder.{Cylinder}
-use Rattle.draw_off.specs.declared.Totals.{Totals}
-use Rattle.draw_off.specs.Event.{Event}
+use Rattle.draw_events.specs.declared.Totals.{Totals}
+use Rattle.draw_events.specs.Event.{Event}
 use Rattle.immersion_heater.specs.Turn.{Turned, turn, turnNumber}
 use Rattle.tank_model.specs.declared.Heater.{Heater}
 use Rattle.tank_model.specs.declared.Setting.{Setting}

@@ -8,7 +8,7 @@ use lib.ListN.{set, replicate}
 use lib.Ieee.{Float}
 use Rattle.numeric.specs.Double.{_⊕_, zero-f}
 use Rattle.cylinder.specs.declared.Cylinder.{Cylinder}
-use Rattle.draw_off.specs.declared.Totals.{Totals}
+use Rattle.draw_events.specs.declared.Totals.{Totals}
 use Rattle.immersion_heater.specs.declared.turn.Immersion.{Immersion}
 use Rattle.immersion_heater.specs.Turn.{Turned, turnNumber}
 use Rattle.working_order.specs.Order.{maxHeaters}

@@ -11,9 +11,9 @@ ghost use Rattle.mixing.specs.Limits.{maxLayers};
 ghost use Rattle.tank_arrays.specs.Arrays.{linesIn, HoldsLines, ZeroLines, fixedWith, stepWith};
 ghost use Rattle.step_work.specs.Lent.{noTotals, StepWorked};
 use cylinder::Cylinder;
-use draw_off::Totals;
+use draw_events::Totals;
+use draw_events::event::MAX_EVENTS;
 use draw_off::cold::Feed;
-use draw_off::event::MAX_EVENTS;
 use mixing::limits::MAX_LAYERS;
 use tank_arrays::arrays::THREE_EACH;
 use tank_arrays::arrays::TWO_EACH;
@@ -111,7 +111,7 @@ pub fn work_step(
     }
     let vol = cylinder::layer_volumes(c);
     let water = Feed { temperature: feed };
-    let d = draw_off::event::draw_events(c, &vol, water, events, volumes, temps, no_totals());
+    let d = draw_events::event::draw_events(c, &vol, water, events, volumes, temps, no_totals());
     if d.number != 0 {
         return refused(d.number);
     }

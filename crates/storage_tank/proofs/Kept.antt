@@ -12,8 +12,8 @@ use lib.Ieee.{Float}
 use Rattle.numeric.specs.Double.{zero-f}
 use Rattle.numeric.specs.Places.{Keeps, keeps-self, keeps-trans}
 use Rattle.mixing.specs.Limits.{maxLayers}
-use Rattle.draw_off.specs.Event.{Event}
-use Rattle.draw_off.proofs.Keeps.{events-keep}
+use Rattle.draw_events.specs.Event.{Event}
+use Rattle.draw_events.proofs.Keeps.{events-keep}
 use Rattle.immersion_heater.proofs.Keeps.{turn-keeps-temps}
 use Rattle.working_order.specs.Order.{maxHeaters}
 use Rattle.tank_model.specs.declared.TankDesign.{TankDesign}

@@ -13,7 +13,7 @@ use lib.Ieee.Fits.{and-l, and-r}
 use Rattle.mixing.specs.Limits.{maxLayers}
 use Rattle.cylinder.specs.declared.Cylinder.{Cylinder}
 use Rattle.cylinder.specs.Layers.{allFinite}
-use Rattle.draw_off.specs.Lent.{maxEvents}
+use Rattle.draw_events.specs.Lent.{maxEvents}
 use Rattle.working_order.specs.Order.{maxHeaters}
 use Rattle.tank_model.specs.declared.Heater.{Heater}
 use Rattle.tank_model.specs.declared.Step.{Step}

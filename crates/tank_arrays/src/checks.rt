@@ -2,7 +2,7 @@
 // answers the first number that is not 0.
 ghost use mathlib.Core.Path.{_≡_};
 ghost use Prim.Native.Nat.{_+_, _≤_};
-ghost use Rattle.draw_off.specs.Lent.{maxEvents};
+ghost use Rattle.draw_events.specs.Lent.{maxEvents};
 ghost use Rattle.working_order.specs.Order.{maxHeaters};
 ghost use Rattle.tank_model.specs.Fixed.{placed, placedHeaters};
 ghost use Rattle.tank_model.specs.Checks.{notNegative, isPosition, layersCheck, heatersCheck, numbersCheck, temperaturesCheck, heaterCheck, placesCheck};
@@ -11,7 +11,7 @@ ghost use Rattle.tank_arrays.specs.Arrays.{fittedIn, settingsIn};
 use crate::arrays::THREE_EACH;
 use crate::arrays::TWO_EACH;
 use cylinder::Cylinder;
-use draw_off::event::MAX_EVENTS;
+use draw_events::event::MAX_EVENTS;
 use heating::SetPoints;
 use mixing::limits::MAX_LAYERS;
 use tank_model::Heater;

@@ -15,7 +15,7 @@ ghost use Rattle.tank_arrays.specs.Contracts.{FirstOfStep, RefusedFor};
 use crate::arrays::THREE_EACH;
 use crate::arrays::TWO_EACH;
 use cylinder::Cylinder;
-use draw_off::event::MAX_EVENTS;
+use draw_events::event::MAX_EVENTS;
 use mixing::limits::MAX_LAYERS;
 use tank_model::TankDesign;
 use working_order::MAX_HEATERS;

@@ -11,7 +11,7 @@ use lib.Seq.{getD-set-other}
 use lib.Ieee.{Float}
 use Rattle.mixing.specs.Rearrange.{Mixing, rearrange}
 use Rattle.cylinder.specs.Layers.{layerVolume, layerVolumes, allFinite}
-use Rattle.draw_off.specs.Event.{Event, unmixed, mixed, eventMixing, eventOf, drawAll}
+use Rattle.draw_events.specs.Event.{Event, unmixed, mixed, eventMixing, eventOf, drawAll}
 use Rattle.immersion_heater.specs.Turn.{turnNumber}
 use Rattle.working_order.specs.Order.{maxHeaters}
 use Rattle.tank_model.specs.declared.TankDesign.{TankDesign}

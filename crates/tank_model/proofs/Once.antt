@@ -13,8 +13,8 @@ use Rattle.numeric.specs.Double.{zero-f}
 use Rattle.numeric.specs.Close.{wideClose}
 use Rattle.numeric.specs.Tabulate.{tabulate}
 use Rattle.mixing.specs.Rearrange.{Mixing, sorted, unsorted}
-use Rattle.draw_off.specs.declared.Totals.{Totals}
-use Rattle.draw_off.specs.Event.{Event, EventMixing, unmixed, mixed}
+use Rattle.draw_events.specs.declared.Totals.{Totals}
+use Rattle.draw_events.specs.Event.{Event, EventMixing, unmixed, mixed}
 use Rattle.tank_model.specs.declared.TankDesign.{TankDesign}
 use Rattle.tank_model.specs.declared.HeaterLine.{HeaterLine}
 use Rattle.tank_model.specs.declared.Step.{Step}

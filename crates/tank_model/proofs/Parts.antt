@@ -9,8 +9,8 @@ use lib.Ieee.Bits.{is-true}
 use Rattle.numeric.specs.Double.{zero-f}
 use Rattle.numeric.specs.Close.{wideClose}
 use Rattle.mixing.specs.Rearrange.{Mixing, sorted, unsorted}
-use Rattle.draw_off.specs.Event as Event
-use Rattle.draw_off.specs.Event.{Event, EventMixing, unmixed, mixed, tempsAfterEvent, totalsAfterEvent, eventFinite, eventNumber}
+use Rattle.draw_events.specs.Event as Event
+use Rattle.draw_events.specs.Event.{Event, EventMixing, unmixed, mixed, tempsAfterEvent, totalsAfterEvent, eventFinite, eventNumber}
 use Rattle.immersion_heater.specs.Turn as Turn
 use Rattle.immersion_heater.specs.Turn.{turnFinite, turnNumber}
 use Rattle.tank_model.specs.declared.TankDesign.{TankDesign}

@@ -5,10 +5,10 @@ use mathlib.Core.Bool.{Bool}
 use Prim.Native.Nat.{ℕ}
 use lib.Ieee.{Float}
 use Rattle.mixing.specs.Rearrange.{Mixing}
-use Rattle.draw_off.specs.declared.Totals.{Totals}
+use Rattle.draw_events.specs.declared.Totals.{Totals}
 use Rattle.draw_off.specs.Draw.{Draw}
-use Rattle.draw_off.specs.Refill.{Refill}
-use Rattle.draw_off.specs.Event.{Event, EventMixing}
+use Rattle.refill.specs.Refill.{Refill}
+use Rattle.draw_events.specs.Event.{Event, EventMixing}
 use Rattle.heating.specs.declared.SetPoints.{SetPoints}
 use Rattle.immersion_heater.specs.Turn.{Turned}
 use Rattle.tank_model.specs.declared.HeaterLine.{HeaterLine}

@@ -14,7 +14,7 @@ use lib.Ieee.{Float}
 use lib.Ieee.Bits.{is-true}
 use Rattle.mixing.specs.Rearrange.{Mixing, sorted, unsorted, rearrange}
 use Rattle.mixing.proofs.Order.{accepted-rises}
-use Rattle.draw_off.specs.Event.{Event, EventMixing, unmixed, mixed}
+use Rattle.draw_events.specs.Event.{Event, EventMixing, unmixed, mixed}
 use Rattle.immersion_heater.specs.Switch.{atOrUnderLower, upperMissingOrReached}
 use Rattle.immersion_heater.specs.SwitchLaws.{latched}
 use Rattle.tank_model.specs.Work.{Progress, Turn, End, refused, done, Work, resume, andThen, endBy, lineOf, zeroLine, closed, closing}

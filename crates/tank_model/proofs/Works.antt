@@ -9,9 +9,9 @@ use lib.ListN.{length}
 use lib.Ieee.{Float}
 use Rattle.mixing.specs.Rearrange.{sorted, unsorted}
 use Rattle.cylinder.specs.Layers.{allFinite}
-use Rattle.draw_off.specs.declared.Totals.{Totals}
-use Rattle.draw_off.specs.Event as Event
-use Rattle.draw_off.specs.Event.{Event, EventMixing, Drawings, unmixed, mixed, eventMixing, eventOf, tempsAfterEvent, totalsAfterEvent, eventFinite, eventNumber, drawAll}
+use Rattle.draw_events.specs.declared.Totals.{Totals}
+use Rattle.draw_events.specs.Event as Event
+use Rattle.draw_events.specs.Event.{Event, EventMixing, Drawings, unmixed, mixed, eventMixing, eventOf, tempsAfterEvent, totalsAfterEvent, eventFinite, eventNumber, drawAll}
 use Rattle.working_order.specs.Order.{maxHeaters}
 use Rattle.tank_model.specs.declared.TankDesign.{TankDesign}
 use Rattle.tank_model.specs.declared.Step.{Step}

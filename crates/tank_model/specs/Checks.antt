@@ -11,7 +11,7 @@ use Rattle.numeric.specs.Double.{zero-f, one-f}
 use Rattle.mixing.specs.Limits.{maxLayers}
 use Rattle.cylinder.specs.declared.Cylinder.{Cylinder}
 use Rattle.cylinder.specs.Layers.{allFinite}
-use Rattle.draw_off.specs.Lent.{maxEvents}
+use Rattle.draw_events.specs.Lent.{maxEvents}
 use Rattle.heating.specs.declared.SetPoints.{SetPoints}
 use Rattle.heating.specs.declared.SetPoints.the-variants.{Neither, Lower, Upper, Both}
 use Rattle.working_order.specs.Order.{maxHeaters}

@@ -17,8 +17,8 @@ use Rattle.numeric.specs.Sum2.{sum2}
 use Rattle.mixing.specs.Rearrange.{Mixing, sorted, unsorted, afterRounds}
 use Rattle.draw_off.specs.declared.cold.Feed.{Feed}
 use Rattle.draw_off.specs.Draw.{extract, volumeUsed}
-use Rattle.draw_off.specs.Refill.{refill}
-use Rattle.draw_off.specs.Event.{Event, unmixed, mixed}
+use Rattle.refill.specs.Refill.{refill}
+use Rattle.draw_events.specs.Event.{Event, unmixed, mixed}
 use Rattle.heating.specs.Heat.{offersTo, heated}
 use Rattle.heating.specs.Losses.{tempsAfter, chargedAfter, surplus, losses}
 use Rattle.immersion_heater.specs.Offer.{offer}

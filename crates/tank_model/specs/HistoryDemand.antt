@@ -10,7 +10,7 @@ use lib.ListN.{length, getD, take, replicate}
 use lib.Ieee.{Float, nan, le, eq}
 use Rattle.numeric.specs.Double.{zero-f}
 use Rattle.mixing.specs.Rearrange.{Mixing, sorted, unsorted}
-use Rattle.draw_off.specs.Event.{EventMixing, unmixed, mixed, Event}
+use Rattle.draw_events.specs.Event.{EventMixing, unmixed, mixed, Event}
 use Rattle.tank_model.specs.declared.TankDesign.{TankDesign}
 use Rattle.tank_model.specs.Fixed.{State, fixedOf}
 use Rattle.tank_model.specs.Order.{workingOrder}

@@ -11,9 +11,9 @@ use Rattle.numeric.specs.Close.{wideClose}
 use Rattle.numeric.specs.Tabulate.{tabulate}
 use Rattle.mixing.specs.Limits.{maxLayers}
 use Rattle.cylinder.specs.declared.Cylinder.{Cylinder}
-use Rattle.draw_off.specs.declared.Totals.{Totals}
+use Rattle.draw_events.specs.declared.Totals.{Totals}
 use Rattle.draw_off.specs.declared.cold.Feed.{Feed}
-use Rattle.draw_off.specs.Event.{Event, drawAll}
+use Rattle.draw_events.specs.Event.{Event, drawAll}
 use Rattle.heating.specs.declared.SetPoints.{SetPoints}
 use Rattle.immersion_heater.specs.Turn.{Turned, turn, turnNumber}
 use Rattle.working_order.specs.Order.{maxHeaters}

@@ -5,7 +5,7 @@ ghost use Prim.Native.Nat.{_≤_};
 ghost use Rattle.mixing.specs.Limits.{maxLayers};
 ghost use Rattle.tank_model.specs.Fixed.{placed, immersed, zeroHeater};
 ghost use Rattle.tank_model.specs.Work.{zeroLine};
-use draw_off::event::MAX_EVENTS;
+use draw_events::event::MAX_EVENTS;
 use heating::SetPoints;
 use heating::turn::Immersion;
 use working_order::MAX_HEATERS;

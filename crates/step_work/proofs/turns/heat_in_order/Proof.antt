@@ -5,7 +5,7 @@ use native.Mathlib.Omega.{arith}
 use lib.Ieee.{Float}
 use lib.ListN.{take}
 use lib.Seq.{slice}
-use Rattle.draw_off.specs.declared.Totals.{Totals}
+use Rattle.draw_events.specs.declared.Totals.{Totals}
 use Rattle.tank_arrays.specs.Arrays.{fittedIn, settingsIn, HoldsLines}
 use Rattle.step_work.specs.declared.turns.TurnsAnswer.{TurnsAnswer}
 use Rattle.step_work.specs.Lent.{heatedIn}
