@@ -25,6 +25,7 @@ use Rattle.working_order.specs.Order as Sorting
 use Rattle.tank_model.specs.Fixed as Fixed
 use Rattle.tank_model.specs.Order as Order
 use Rattle.tank_model.specs.Checks as Checks
+use Rattle.tank_model.specs.Run as Run
 use Rattle.tank_model.specs.Work as Work
 use Rattle.storage_tank.specs.Calls as Calls
 
@@ -37,14 +38,14 @@ unfolding I.round I.ofInt I.ofBits I.add I.sub I.mul I.div I.neg I.lt I.le I.eq 
     Cold.cold Draw.givesAll Draw.share Draw.restAfter Draw.drawShare Draw.drawLayer Draw.drawLayers Draw.drawFeed Draw.extract Draw.volumeUsed
     Refill.takeShare Refill.takeFrom Refill.takeBelow Refill.fromFeed Refill.entersWarmer Refill.fillingOf Refill.refillLayer Refill.refillLayers
     Refill.refill
-    Event.eventMixing Event.eventOf Event.tempsAfterEvent Event.totalsAfterEvent Event.eventFinite Event.eventNumber Event.drawAll
+    Event.eventMixing Event.eventOf Event.tempsAfterEvent Event.totalsAfterEvent Event.eventFinite Event.eventNumber
     Switch.hasUpper Switch.upperOf Switch.atOrUnderLower Switch.upperMissingOrReached Switch.switchOn Switch.switchOff Heat.offer Heat.heated
     Losses.clearlyAbove Losses.overUpper Losses.standbyCoefficient Losses.warmed Losses.countedTemp Losses.standingLoss Losses.loss Losses.lossAt Losses.losses
     Losses.limitedTemp Losses.tempsAfter Losses.chargedAfter Losses.surplusTerm Losses.surplus Losses.adjusted
     Supply.demand Supply.supply Turn.input Turn.heatAndMix Turn.adjustedInput Turn.afterMixing Turn.turn Turn.turnFinite Turn.turnNumber
     Fixed.placedHeaters Sorting.insert Sorting.insertionSort Sorting.risingOrder Order.workingOrder Checks.firstRefusal Checks.fairPoints
     Checks.makeRefusal Checks.stepRefusal
-    Work.resume Work.andThen Work.endBy Work.events Work.averageOf Work.withAverage Work.turnOf Work.afterTurn
-    Work.heaterTurn Work.turns Work.opening Work.recoverable Work.closed Work.begin Work.work
+    Run.endBy Run.first Run.run
+    Work.workEvent Work.events Work.averageOf Work.turnOf Work.workTurn Work.turns Work.recoverable Work.close Work.thenTurns Work.begin Work.work
     Calls.fittedHeaters Calls.madeOf Calls.made Calls.answer Calls.stepped Calls.answered Calls.answers
 opened = tt

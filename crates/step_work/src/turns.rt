@@ -3,17 +3,16 @@ ghost use mathlib.Core.Path.{_≡_};
 ghost use mathlib.Core.Bool.{Bool, false};
 ghost use mathlib.Core.List.{List};
 ghost use Prim.Native.Nat.{ℕ, _≤_, _<_};
-ghost use lib.ListN.{getD, length, take};
+ghost use lib.ListN.{getD, take};
 ghost use Rattle.numeric.specs.Tabulate.{tabulate};
 ghost use Rattle.mixing.specs.Limits.{maxLayers};
-ghost use Rattle.cylinder.specs.Layers.{layerVolumes};
 ghost use Rattle.heating.specs.Turn.{turn};
 ghost use Rattle.working_order.specs.Order.{maxHeaters};
 ghost use Rattle.tank_model.specs.Fixed.{noHeater};
 ghost use Rattle.tank_model.specs.Order.{workingOrder};
 ghost use Rattle.tank_model.specs.Work.{zeroLine};
 ghost use Rattle.tank_arrays.specs.Arrays.{fittedIn, settingsIn, HoldsLines, fixedWith};
-ghost use Rattle.step_work.specs.Lent.{immersion, noTurns, heatedIn, TurnWorked, TurnsWorked};
+ghost use Rattle.step_work.specs.Lent.{immersion, noTurns, heatingIn, CanHeat, OrderOf, TurnWorked, TurnsWorked};
 use cylinder::Cylinder;
 use heating::SetPoints;
 use heating::turn::Immersion;
@@ -80,7 +79,12 @@ fn heat_turn(
     rounds: &mut [usize; MAX_HEATERS],
 ) -> TurnsAnswer
     requires { ⌜ (1 ≤ c .layers) × (c .layers ≤ maxLayers) × (h < maxHeaters) × HoldsLines (now figures) (now flags) (now rounds) ⌝ }
-    ensures { λ r. ⌜ TurnWorked c h (turn c (now (vol .entry)) (immersion (c .layers) x) p (now (temps .entry)) (now (charged .entry)) (getD (now (on .entry)) h false)) (heatedIn s (now (on .entry)) (now (figures .entry)) (now (flags .entry)) (now (rounds .entry))) (heatedIn r (now (on .exit)) (now (figures .exit)) (now (flags .exit)) (now (rounds .exit))) (now (temps .exit)) (now (charged .exit)) × HoldsLines (now (figures .exit)) (now (flags .exit)) (now (rounds .exit)) ⌝ }
+    ensures { λ r. ⌜ TurnWorked c h
+        (turn c (now (vol .entry)) (immersion (c .layers) x) p (now (temps .entry)) (now (charged .entry)) (getD (now (on .entry)) h false))
+        (heatingIn (now (temps .entry)) (now (charged .entry)) (now (on .entry)) s (now (figures .entry)) (now (flags .entry)) (now (rounds .entry)))
+        (r .number)
+        (heatingIn (now (temps .exit)) (now (charged .exit)) (now (on .exit)) r (now (figures .exit)) (now (flags .exit)) (now (rounds .exit)))
+        × HoldsLines (now (figures .exit)) (now (flags .exit)) (now (rounds .exit)) ⌝ }
 {
     let i = immersion_of(c.layers, x);
     let u = heating::turn::turn(c, vol, i, p, on[h], temps, charged);
@@ -115,7 +119,8 @@ pub fn positions_of(fitted: [Heater; MAX_HEATERS]) -> [f64; MAX_HEATERS]
 
 // The same, from the array that holds them.
 fn positions_in(heaters: &[f64; THREE_EACH]) -> [f64; MAX_HEATERS]
-    ensures { λ r. ⌜ ((thermostats : List Bool) → r ≡ tabulate (λ (h : ℕ). getD (fittedIn (now (heaters .entry)) thermostats) h noHeater .position) maxHeaters 0) ⌝ }
+    ensures { λ r. ⌜ ((thermostats : List Bool)
+        → r ≡ tabulate (λ (h : ℕ). getD (fittedIn (now (heaters .entry)) thermostats) h noHeater .position) maxHeaters 0) ⌝ }
 {
     [
         heaters[8],
@@ -146,8 +151,13 @@ fn heat_in_order(
     flags: &mut [bool; MAX_HEATERS],
     rounds: &mut [usize; MAX_HEATERS],
 ) -> TurnsAnswer
-    requires { ⌜ (1 ≤ c .layers) × (c .layers ≤ maxLayers) × (n ≤ maxHeaters) × (now vol ≡ layerVolumes c) × (length (now order) ≡ maxHeaters) × ((k : ℕ) → k < n → getD (now order) k 0 < n) × HoldsLines (now figures) (now flags) (now rounds) ⌝ }
-    ensures { λ r. ⌜ TurnsWorked c n (fittedIn (now (heaters .entry)) (now (thermostats .entry))) (settingsIn (now (present .entry)) (now (points .entry))) (take n (now (order .entry))) (now (temps .entry)) (now (charged .entry)) (heatedIn noTurns (now (on .entry)) (now (figures .entry)) (now (flags .entry)) (now (rounds .entry))) (heatedIn r (now (on .exit)) (now (figures .exit)) (now (flags .exit)) (now (rounds .exit))) (now (temps .exit)) (now (charged .exit)) × HoldsLines (now (figures .exit)) (now (flags .exit)) (now (rounds .exit)) ⌝ }
+    requires { ⌜ CanHeat c (now vol) n × OrderOf n (now order) × HoldsLines (now figures) (now flags) (now rounds) ⌝ }
+    ensures { λ r. ⌜ TurnsWorked (fixedWith c n (now (heaters .entry)) (now (thermostats .entry))) (settingsIn (now (present .entry)) (now (points .entry)))
+        (take n (now (order .entry)))
+        (heatingIn (now (temps .entry)) (now (charged .entry)) (now (on .entry)) noTurns (now (figures .entry)) (now (flags .entry)) (now (rounds .entry)))
+        (r .number)
+        (heatingIn (now (temps .exit)) (now (charged .exit)) (now (on .exit)) r (now (figures .exit)) (now (flags .exit)) (now (rounds .exit)))
+        × HoldsLines (now (figures .exit)) (now (flags .exit)) (now (rounds .exit)) ⌝ }
 {
     let mut s = no_turns();
     let mut k = 0;
@@ -193,8 +203,13 @@ pub fn heat_turns(
     flags: &mut [bool; MAX_HEATERS],
     rounds: &mut [usize; MAX_HEATERS],
 ) -> TurnsAnswer
-    requires { ⌜ (1 ≤ c .layers) × (c .layers ≤ maxLayers) × (n ≤ maxHeaters) × (now vol ≡ layerVolumes c) × HoldsLines (now figures) (now flags) (now rounds) ⌝ }
-    ensures { λ r. ⌜ TurnsWorked c n (fittedIn (now (heaters .entry)) (now (thermostats .entry))) (settingsIn (now (present .entry)) (now (points .entry))) (workingOrder (fixedWith c n (now (heaters .entry)) (now (thermostats .entry)))) (now (temps .entry)) (now (charged .entry)) (heatedIn noTurns (now (on .entry)) (now (figures .entry)) (now (flags .entry)) (now (rounds .entry))) (heatedIn r (now (on .exit)) (now (figures .exit)) (now (flags .exit)) (now (rounds .exit))) (now (temps .exit)) (now (charged .exit)) × HoldsLines (now (figures .exit)) (now (flags .exit)) (now (rounds .exit)) ⌝ }
+    requires { ⌜ CanHeat c (now vol) n × HoldsLines (now figures) (now flags) (now rounds) ⌝ }
+    ensures { λ r. ⌜ TurnsWorked (fixedWith c n (now (heaters .entry)) (now (thermostats .entry))) (settingsIn (now (present .entry)) (now (points .entry)))
+        (workingOrder (fixedWith c n (now (heaters .entry)) (now (thermostats .entry))))
+        (heatingIn (now (temps .entry)) (now (charged .entry)) (now (on .entry)) noTurns (now (figures .entry)) (now (flags .entry)) (now (rounds .entry)))
+        (r .number)
+        (heatingIn (now (temps .exit)) (now (charged .exit)) (now (on .exit)) r (now (figures .exit)) (now (flags .exit)) (now (rounds .exit)))
+        × HoldsLines (now (figures .exit)) (now (flags .exit)) (now (rounds .exit)) ⌝ }
 {
     let positions = positions_in(heaters);
     let order = working_order::working_order(n, &positions);
