@@ -8,7 +8,7 @@ use mathlib.Core.List.{List}
 use lib.ListN.{set}
 use lib.Seq.{getD-set-other}
 use lib.Ieee.{Float, nan}
-use Rattle.numeric.specs.Descent.{Descent, descent-turn}
+use Rattle.numeric.specs.Descent.{Descent, descent-next}
 use Rattle.cylinder.specs.Layers.{noVolume}
 use Rattle.draw_off.specs.Refill.{Filling, Refill, takeShare, takeFrom, takeBelow, fromFeed, entersWarmer, lackOf, fillingOf, refillLayer}
 use Rattle.draw_off.specs.Lent.{refillOf}
@@ -33,10 +33,10 @@ module _ (vol : List Float) (feed : Float) (before : List Float) (n : ℕ) (star
     pub same : SameBelow i temps before
 
   -- one layer, filled from the temperatures as they stand
-  pub left-turn : (i : ℕ) (held temps : List Float) (mixes : Bool) (given : List Float) (x : Float) (b : Bool) → RefillLeft i held temps mixes → 0 < i → noVolume (lackOf vol feed before (i - 1) held) ≡ false → refillOf given (set temps (i - 1) x) b ≡ refillLayer vol feed temps (i - 1) (refillOf held temps mixes) → RefillLeft (i - 1) given (set temps (i - 1) x) b
-  left-turn i held temps mixes given x b l h some filled =
+  pub left-next : (i : ℕ) (held temps : List Float) (mixes : Bool) (given : List Float) (x : Float) (b : Bool) → RefillLeft i held temps mixes → 0 < i → noVolume (lackOf vol feed before (i - 1) held) ≡ false → refillOf given (set temps (i - 1) x) b ≡ refillLayer vol feed temps (i - 1) (refillOf held temps mixes) → RefillLeft (i - 1) given (set temps (i - 1) x) b
+  left-next i held temps mixes given x b l h some filled =
       let w = l .descent .0 in
       record {
-        descent = rw (filled, layer-same vol feed temps before (i - 1) (refillOf held temps mixes) (λ k u. l .same k (omega arith))) (descent-turn _ _ n start i (refillOf held temps mixes) h some (l .descent));
+        descent = rw (filled, layer-same vol feed temps before (i - 1) (refillOf held temps mixes) (λ k u. l .same k (omega arith))) (descent-next _ _ n start i (refillOf held temps mixes) h some (l .descent));
         same = λ k u. getD-set-other temps (i - 1) k x nan (λ q. omega arith) ∙ l .same k (omega arith);
       }

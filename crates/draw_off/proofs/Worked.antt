@@ -59,8 +59,8 @@ module _ (c : Cylinder) (feed : Float) where
         let m : n - k ≡ suc (n - (k + 1)) = omega arith in
         subst (λ (d : Drawing). drawAll c feed (tabulate v (n - (k + 1)) (k + 1)) (d .number) (d .temps) (d .totals) .end ≡ R) (sym e) (rw m at left)
 
-    pub events-turn : a .number ≡ 0 → drawAll c feed (tabulate v (n - (k + 1)) (k + 1)) 0 after (a .totals) .end ≡ R
-    events-turn z = rw z at next
+    pub events-next : a .number ≡ 0 → drawAll c feed (tabulate v (n - (k + 1)) (k + 1)) 0 after (a .totals) .end ≡ R
+    events-next z = rw z at next
 
     -- a refused event ends them
     pub events-refused : (a .number ≡ 0 → ⊥) → drawingOf after a ≡ R

@@ -6,13 +6,13 @@ use mathlib.Core.List.{List}
 use lib.ListN.{getD}
 use lib.Ieee.{Float, nan}
 use Rattle.numeric.specs.declared.sum2.Accumulator.{Accumulator}
-use Rattle.numeric.specs.Turns.{turns}
-use Rattle.numeric.specs.Sum2.{nothing-added, sumTurn}
+use Rattle.numeric.specs.Iterate.{iterate}
+use Rattle.numeric.specs.Sum2.{nothing-added, addAt}
 use Rattle.draw_off.specs.declared.kept.KeptSum.{KeptSum}
 
 -- Sum2 of the first n places, before its correction is added
 unfoldable pub sumOfFirst : List Float → ℕ → Accumulator
-sumOfFirst xs n = turns (sumTurn (λ (k : ℕ). getD xs k nan)) n 0 nothing-added
+sumOfFirst xs n = iterate (addAt (λ (k : ℕ). getD xs k nan)) n 0 nothing-added
 
 -- the kept sum is that of so many places of xs
 abbrev pub IsSumOf : List Float → KeptSum → Type 0

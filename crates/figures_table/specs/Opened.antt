@@ -3,7 +3,7 @@
 use lib.Ieee as I
 use Rattle.numeric.specs.Compare as Compare
 use Rattle.numeric.specs.Close as Close
-use Rattle.numeric.specs.Turns as Turns
+use Rattle.numeric.specs.Iterate as Turns
 use Rattle.numeric.specs.Holds as Holds
 use Rattle.numeric.specs.Tabulate as Tabulate
 use Rattle.numeric.specs.Sum2 as Sum2
@@ -32,7 +32,7 @@ use Rattle.storage_tank.specs.Calls as Calls
 unfoldable pub opened : Unit {0}
 unfolding I.round I.ofInt I.ofBits I.add I.sub I.mul I.div I.neg I.lt I.le I.eq Compare.minOf2 Compare.maxOf2 Close.magnitude Close.infinite Close.within
     Close.close Close.narrowClose Close.wideClose
-    Turns.turns Holds.holds Tabulate.tabulate Sum2.accumulate Sum2.accumulateAll Sum2.sum2 Whole.wholeBelow Whole.layerOf Layers.layerVolume
+    Iterate.iterate Holds.holds Tabulate.tabulate Sum2.accumulate Sum2.accumulateAll Sum2.sum2 Whole.wholeBelow Whole.layerOf Layers.layerVolume
     Layers.layerVolumes Layers.noVolume Layers.allFinite
     Round.joins Round.member Round.groupTemp Round.pair Round.oneRound Rearrange.isSorted Rearrange.rounds Rearrange.rearrange Mix.mixRefusal
     Cold.cold Draw.givesAll Draw.share Draw.restAfter Draw.drawShare Draw.drawLayer Draw.drawLayers Draw.drawFeed Draw.extract Draw.volumeUsed

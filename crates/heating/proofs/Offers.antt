@@ -9,9 +9,9 @@ use lib.Dec.{T, eqb}
 use lib.Ieee.{Float, binary64, fits, ofBits}
 use lib.Ieee.Fits.{add-fits}
 use Rattle.numeric.specs.Double.{_⊕_, zero-f}
-use Rattle.numeric.specs.Turns.{turns}
+use Rattle.numeric.specs.Iterate.{iterate}
 use Rattle.numeric.specs.Tabulate.{tabulate}
-use Rattle.numeric.specs.Sum2.{nothing-added, accumulate, total, sum2, sum2-turns}
+use Rattle.numeric.specs.Sum2.{nothing-added, accumulate, total, sum2, sum2-iterate}
 use Rattle.numeric.specs.Zeros.{IsZero}
 use Rattle.numeric.proofs.Members.{sum-members}
 use Rattle.heating.specs.Heat.{offer}
@@ -35,10 +35,10 @@ module _ (on : Bool) (energy : Float) (layer : ℕ) where
 
   -- the law
   pub input-own : (n : ℕ) → layer < n → sum2 (tabulate (offer on energy layer) n 0) ≡ total (accumulate nothing-added (offer on energy layer layer))
-  unfolding turns
+  unfolding iterate
   input-own n l =
       let g = offer on energy layer in
       let one : layer + 1 - layer ≡ 1 = omega arith in
-      sum2-turns g n
+      sum2-iterate g n
       ∙ ap total (sum-members g g layer (layer + 1) n (omega arith) (omega arith) (λ j m o. other-zero j o) (λ j m u. (refl, offer-fits j)))
       ∙ rw one

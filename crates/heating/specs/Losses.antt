@@ -8,7 +8,7 @@ use lib.Ieee.{Float, nan, lt}
 use Rattle.numeric.specs.Double.{_⊕_, _⊖_, _⊛_, _⊘_, zero-f, whole}
 use Rattle.numeric.specs.Compare.{minOf2, maxOf2}
 use Rattle.numeric.specs.Close.{wideClose}
-use Rattle.numeric.specs.Turns.{turns}
+use Rattle.numeric.specs.Iterate.{iterate}
 use Rattle.numeric.specs.Tabulate.{tabulate}
 use Rattle.numeric.specs.Places.{updateFirst}
 use Rattle.numeric.specs.Sum2.{sum2}
@@ -85,7 +85,7 @@ module _ (c : Cylinder) (vol : List Float) (p : SetPoints) (before mixed charged
   unfoldable pub surplus : ℕ → Float
   surplus layer =
       cond (overUpper p (getD mixed layer nan))
-      (turns (λ (k : ℕ) (s : Float). s ⊕ surplusAt k) (c .layers - layer) layer zero-f)
+      (iterate (λ (k : ℕ) (s : Float). s ⊕ surplusAt k) (c .layers - layer) layer zero-f)
       zero-f
 
 -- adjusted: `max_of_2` of 0 and `min_of_2` of input - surplus and input, or 0 if input is not above zero

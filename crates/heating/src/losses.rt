@@ -3,7 +3,7 @@
 ghost use mathlib.Core.Path.{_≡_};
 ghost use Prim.Native.Nat.{ℕ, _-_, _≤_, _<_};
 ghost use lib.Ieee.{Float};
-ghost use Rattle.numeric.specs.Turns.{turns};
+ghost use Rattle.numeric.specs.Iterate.{iterate};
 ghost use Rattle.numeric.specs.Double.{_⊕_, _⊛_, zero-f};
 ghost use Rattle.mixing.specs.Limits.{maxLayers};
 ghost use Rattle.heating.specs.Losses.{clearlyAbove, overUpper, standbyCoefficient, countedTemp, standingLoss, loss};
@@ -123,7 +123,7 @@ fn sum_surplus(
     layer: usize,
 ) -> f64
     requires { ⌜ (layer < c .layers) × (c .layers ≤ maxLayers) ⌝ }
-    ensures { λ r. ⌜ r ≡ turns (λ (k : ℕ) (s : Float). s ⊕ surplusAt c (now (vol .entry)) p (now (before .entry)) (now (mixed .entry)) (now (charged .entry)) k) (c .layers - layer) layer zero-f ⌝ }
+    ensures { λ r. ⌜ r ≡ iterate (λ (k : ℕ) (s : Float). s ⊕ surplusAt c (now (vol .entry)) p (now (before .entry)) (now (mixed .entry)) (now (charged .entry)) k) (c .layers - layer) layer zero-f ⌝ }
 {
     let n = c.layers;
     let mut s = 0.0;

@@ -10,7 +10,7 @@ use borrow.Author.Tests.{eq-eqb, ne-eqb}
 use lib.ListN.{length, getD, set, drop, length-drop, length-replicate}
 use lib.Seq.{getD-drop, drop-drop, slice, slice-cons}
 use lib.Ieee.{Float}
-use Rattle.numeric.specs.Copy.{copied, copied-turn}
+use Rattle.numeric.specs.Copy.{copied, copied-next}
 use Rattle.cylinder.specs.declared.Cylinder.{Cylinder}
 use Rattle.heating.specs.Turn.{turnNumber}
 use Rattle.working_order.specs.Order.{maxHeaters}
@@ -52,7 +52,7 @@ telling-turn all rest x r k t l =
     let many : length noFacts ≡ maxHeaters = length-replicate maxHeaters noFact in
     record {
       counts = refl;
-      holds = rw (t .holds, ← d .1) (copied-turn noFact k all noFacts (d .0) (omega arith));
+      holds = rw (t .holds, ← d .1) (copied-next noFact k all noFacts (d .0) (omega arith));
       left = d .2;
       room = let h = d .0 in omega arith;
     }

@@ -18,8 +18,8 @@ module _ {A : Type 0} (g : ℕ → A) where
       let e : i + suc k ≡ i + 1 + k = omega arith in
       rw (e, tabulate-more k (i + 1))
 
-  pub filled-turn : (d : A) (k : ℕ) (xs : List A) → k < length xs → set (filled g k xs) k (g k) ≡ filled g (k + 1) xs
-  filled-turn d k xs h =
+  pub filled-next : (d : A) (k : ℕ) (xs : List A) → k < length xs → set (filled g k xs) k (g k) ≡ filled g (k + 1) xs
+  filled-next d k xs h =
       rw (drop-cons xs k d h, set-at (tabulate g k 0) (getD xs k d) (drop (suc k) xs) (g k) k (length-tabulate g k 0), add-one, tabulate-more k 0, append-assoc, zero-add)
 
 module _ {A B : Type 0} (f : A → B) where

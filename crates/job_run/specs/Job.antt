@@ -76,12 +76,12 @@ startJob = record { before = 0; at = 0; ended = false; «has_tank» = false; ste
 -- ---- one record
 
 -- the job after a record, and what the record prints
-pub record Turn : Type 0 where
+pub record Outcome : Type 0 where
   pub job : Job
   pub text : List ℕ
 
--- a function's answer and its lent buffer are a turn's job and text, which is never long
-pub record Turned (t : Turn) (before after : List ℕ) (r : Printed) : Type 0 where
+-- a function's answer and its lent buffer are an outcome's job and text, which is never long
+pub record Gives (t : Outcome) (before after : List ℕ) (r : Printed) : Type 0 where
   pub goes : r .job ≡ t .job
   pub counts : r .length ≡ length (t .text)
   pub prints : after ≡ written before (t .text)
@@ -99,65 +99,65 @@ abbrev pub Countable : Job → Type 0
 Countable j = (16 * j .steps ≤ offsetOf j) × (offsetOf j < 9223372036854775808)
 
 -- a refusal outside a step prints its number and the record's start, and ends the program
-unfoldable pub refusedTurn : Job → ℕ → Turn
-refusedTurn j number = record { job = endedJob j; text = refusalLine number (offsetOf j) }
+unfoldable pub refusedOutcome : Job → ℕ → Outcome
+refusedOutcome j number = record { job = endedJob j; text = refusalLine number (offsetOf j) }
 
 abbrev pub withTank : Job → ℕ → TankDesign → StorageTank → Job
 withTank j next d t = record { before = j .before; at = next; ended = j .ended; «has_tank» = true; steps = j .steps; design = d; tank = t; report = j .report }
 
 -- the tank made, or the number of make's refusal
-unfoldable pub madeTurn : Job → ℕ → TankDesign → Turn
-madeTurn j next d =
+unfoldable pub madeOutcome : Job → ℕ → TankDesign → Outcome
+madeOutcome j next d =
     let m = made d in
-    cond (eqb (m .number) 0) (record { job = withTank j next d (m .tank); text = [] }) (refusedTurn j (m .number))
+    cond (eqb (m .number) 0) (record { job = withTank j next d (m .tank); text = [] }) (refusedOutcome j (m .number))
 
 -- 2 and 5 come at the heater's record
-unfoldable pub heaterTurn : Job → ℕ → Heater → Turn
-heaterTurn j next h = cond (ltb (j .design .heaters) maxHeaters) (madeTurn j next (withHeater (j .design) h)) (refusedTurn j 2)
+unfoldable pub heaterOutcome : Job → ℕ → Heater → Outcome
+heaterOutcome j next h = cond (ltb (j .design .heaters) maxHeaters) (madeOutcome j next (withHeater (j .design) h)) (refusedOutcome j 2)
 
 abbrev pub afterStep : Job → ℕ → StorageTank → Report → Job
 afterStep j next t r = record { before = j .before; at = next; ended = j .ended; «has_tank» = j .«has_tank»; steps = j .steps + 1; design = j .design; tank = t; report = r }
 
 -- a step's lines; refused or not, the job goes on and the index counts it
-unfoldable pub stepTurn : Job → ℕ → Step → Turn
-stepTurn j next a =
+unfoldable pub stepOutcome : Job → ℕ → Step → Outcome
+stepOutcome j next a =
     let s = stepped (j .tank) (j .report) a in
     record { job = afterStep j next (s .tank) (s .report); text = stepLines (j .steps) s }
 
 -- the input's end ends the program; empty input, and any other refused record, is refused with the number of the reader's answer
-unfoldable pub endTurn : ℕ → Job → ℕ → Turn
-endTurn size j number = cond (eqb (j .at) size && not (eqb (offsetOf j) 0)) (record { job = endedJob j; text = [] }) (refusedTurn j number)
+unfoldable pub endOutcome : ℕ → Job → ℕ → Outcome
+endOutcome size j number = cond (eqb (j .at) size && not (eqb (offsetOf j) 0)) (record { job = endedJob j; text = [] }) (refusedOutcome j number)
 
-unfoldable pub turnOf : List ℕ → Job → Reading → Record → Turn
-turnOf bytes j r (Tank t) = madeTurn j (r .next) (designOf t)
-turnOf bytes j r (HeaterCase h) = heaterTurn j (r .next) h
-turnOf bytes j r (StepCase p) = stepTurn j (r .next) (stepOf p (r .volumes) (r .settings))
-turnOf bytes j r Refused = endTurn (length bytes) j (numberIn Refused)
+unfoldable pub outcomeOf : List ℕ → Job → Reading → Record → Outcome
+outcomeOf bytes j r (Tank t) = madeOutcome j (r .next) (designOf t)
+outcomeOf bytes j r (HeaterCase h) = heaterOutcome j (r .next) h
+outcomeOf bytes j r (StepCase p) = stepOutcome j (r .next) (stepOf p (r .volumes) (r .settings))
+outcomeOf bytes j r Refused = endOutcome (length bytes) j (numberIn Refused)
 
 abbrev pub readingOf : List ℕ → Job → Reading
 readingOf bytes j = readRecord bytes (j .at) (j .«has_tank») (j .design .heaters) (not (eqb (j .steps) 0))
 
-unfoldable pub turn : List ℕ → Job → Turn
-turn bytes j = turnOf bytes j (readingOf bytes j) (readingOf bytes j .content)
+unfoldable pub outcome : List ℕ → Job → Outcome
+outcome bytes j = outcomeOf bytes j (readingOf bytes j) (readingOf bytes j .content)
 
 -- ---- the whole job
 
--- one turn, then what follows it
-abbrev pub followed : Turn → Turn → Turn
+-- one record, then what follows it
+abbrev pub followed : Outcome → Outcome → Outcome
 followed t u = record { job = u .job; text = t .text ++ u .text }
 
 -- the records from here on, so many at most: the job after them, and all that they print
-unfoldable pub runFrom : (Job → Turn) → ℕ → Bool → Job → Turn
+unfoldable pub runFrom : (Job → Outcome) → ℕ → Bool → Job → Outcome
 runFrom f zero ended j = record { job = j; text = [] }
 runFrom f (suc k) true j = record { job = j; text = [] }
 runFrom f (suc k) false j = let t = f j in followed t (runFrom f k (t .job .ended) (t .job))
 
--- a whole input of `size` bytes: each record but the last moves the position, so there are no more turns than bytes, and one
-unfoldable pub runAll : (Job → Turn) → ℕ → Turn
+-- a whole input of `size` bytes: each record but the last moves the position, so there are no more records than bytes, and one
+unfoldable pub runAll : (Job → Outcome) → ℕ → Outcome
 runAll f size = runFrom f (size + 1) false startJob
 
-abbrev pub jobRun : List ℕ → Turn
-jobRun bytes = runAll (turn bytes) (length bytes)
+abbrev pub jobRun : List ℕ → Outcome
+jobRun bytes = runAll (outcome bytes) (length bytes)
 
 -- all that a job prints
 abbrev pub jobText : List ℕ → List ℕ

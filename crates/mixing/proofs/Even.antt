@@ -12,8 +12,8 @@ use lib.Ieee.Scale.{finite}
 use denote.Floats.{is-true}
 use Rattle.numeric.specs.Double.{_⊕_, _⊛_, _⊘_, one-f}
 use Rattle.numeric.specs.Zeros.{SameValue}
-use Rattle.numeric.specs.Turns.{turns}
-use Rattle.numeric.specs.Sum2.{nothing-added, accumulate, sumTurn, total}
+use Rattle.numeric.specs.Iterate.{iterate}
+use Rattle.numeric.specs.Sum2.{nothing-added, accumulate, addAt, total}
 use Rattle.numeric.specs.declared.sum2.Accumulator.{Accumulator}
 use Rattle.numeric.proofs.Finite.{sum-parts-finite}
 use Rattle.mixing.specs.Running.{heatSum, SaysJoins, joinedGroup, AsDefined, Follows}
@@ -51,6 +51,6 @@ module _ (vol : List Float) (r : RunningGroup) (i : ℕ) (v next : Float) (sum v
       follows q heat e (λ n first temps b d m f. even-heat n vol first i temps r low b d v at temp heat (v ⊛ next) (known-as heat _ sum _ (sum-is (sum-finite m)) known) f vf same p)
 
   -- it is another
-  pub even-anew : (q : RunningGroup) (heat : Accumulator) → q ≡ joinedGroup r temp heat volume (r .each) met → (heat ≡ heatSum vol temp (r .bottom) (i + 2)) ⊎ (finite (heat .s) ≡ true → heat ≡ turns (sumTurn (λ (k : ℕ). v ⊛ temp)) (i + 2 - r .bottom) (r .bottom) nothing-added) → Joined q
+  pub even-anew : (q : RunningGroup) (heat : Accumulator) → q ≡ joinedGroup r temp heat volume (r .each) met → (heat ≡ heatSum vol temp (r .bottom) (i + 2)) ⊎ (finite (heat .s) ≡ true → heat ≡ iterate (addAt (λ (k : ℕ). v ⊛ temp)) (i + 2 - r .bottom) (r .bottom) nothing-added) → Joined q
   even-anew q heat e either =
       follows q heat e (λ n first temps b d m f. equal-heat n vol first i temps r low b d v at vf same temp heat either f)

@@ -10,18 +10,18 @@ use lib.Dec.{T, ltb, ltb→lt, nltb→le}
 use lib.ListN.{length, getD, set, length-set}
 use lib.Seq.{getD-set-same, getD-set-other, set-getD, ext-getD}
 use lib.Ieee.{Float, nan}
-use Rattle.numeric.specs.Turns.{turns}
+use Rattle.numeric.specs.Iterate.{iterate}
 use Rattle.mixing.specs.Round.{fill}
 use Rattle.mixing.proofs.Keeps.{fill-keeps}
 
 module _ (x : Float) where
-  under : (k i : ℕ) (t : List Float) (j : ℕ) → j < i → getD (turns (λ (k : ℕ) (t : List Float). set t k x) k i t) j nan ≡ getD t j nan
-  unfolding turns
+  under : (k i : ℕ) (t : List Float) (j : ℕ) → j < i → getD (iterate (λ (k : ℕ) (t : List Float). set t k x) k i t) j nan ≡ getD t j nan
+  unfolding iterate
   under zero i t j h = refl
   under (suc k) i t j h = under k (i + 1) (set t i x) j (omega arith) ∙ getD-set-other t i j x nan (omega arith)
 
-  among : (k i : ℕ) (t : List Float) (j : ℕ) → i ≤ j → j < i + k → j < length t → getD (turns (λ (k : ℕ) (t : List Float). set t k x) k i t) j nan ≡ x
-  unfolding turns
+  among : (k i : ℕ) (t : List Float) (j : ℕ) → i ≤ j → j < i + k → j < length t → getD (iterate (λ (k : ℕ) (t : List Float). set t k x) k i t) j nan ≡ x
+  unfolding iterate
   among zero i t j l u h = absurd (omega arith)
   among (suc k) i t j l u h =
       ⊎-elim (λ e. under k (i + 1) (set t i x) j (omega arith) ∙ ap (λ (z : ℕ). getD (set t z x) j nan) e ∙ getD-set-same t j x nan h)
@@ -61,5 +61,5 @@ fill-over bottom end end' x y temps a b =
 
 -- one layer that takes what it has
 pub fill-own : (i : ℕ) (temps : List Float) → fill i (i + 1) (getD temps i nan) temps ≡ temps
-unfolding turns
+unfolding iterate
 fill-own i temps = let e : i + 1 - i ≡ 1 = omega arith in rw e (set-getD temps i nan)

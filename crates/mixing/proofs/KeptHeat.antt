@@ -15,8 +15,8 @@ use lib.Ieee.Scale.{finite}
 use denote.Floats.{is-true}
 use Rattle.numeric.specs.Double.{_⊛_}
 use Rattle.numeric.specs.Zeros.{SameValue}
-use Rattle.numeric.specs.Turns.{turns}
-use Rattle.numeric.specs.Sum2.{nothing-added, accumulate, sumTurn}
+use Rattle.numeric.specs.Iterate.{iterate}
+use Rattle.numeric.specs.Sum2.{nothing-added, accumulate, addAt}
 use Rattle.numeric.specs.declared.sum2.Accumulator.{Accumulator}
 use Rattle.numeric.proofs.Finite.{product-parts-finite}
 use Rattle.numeric.proofs.SameValue.{equal-same, same-back, same-through, same-finite, same-left, same-right, same-factor}
@@ -84,7 +84,7 @@ module _ (n : ℕ) (vol first : List Float) (i : ℕ) (temps : List Float) (r : 
         (rw (← at) (same-right v (r .temp) x (product-parts-finite v (r .temp) product-finite .0) same)))
 
   -- the volumes are equal, and the heat is a sum of one product
-  pub equal-heat : T (fits binary64 v) → eq v (r .each) ≡ true → (x : Float) (q : Accumulator) → (q ≡ heatSum vol x (r .bottom) (i + 2)) ⊎ (finite (q .s) ≡ true → q ≡ turns (sumTurn (λ (k : ℕ). v ⊛ x)) (i + 2 - r .bottom) (r .bottom) nothing-added) → T (finite (q .s)) → q ≡ heatSum vol x (r .bottom) (i + 2)
+  pub equal-heat : T (fits binary64 v) → eq v (r .each) ≡ true → (x : Float) (q : Accumulator) → (q ≡ heatSum vol x (r .bottom) (i + 2)) ⊎ (finite (q .s) ≡ true → q ≡ iterate (addAt (λ (k : ℕ). v ⊛ x)) (i + 2 - r .bottom) (r .bottom) nothing-added) → T (finite (q .s)) → q ≡ heatSum vol x (r .bottom) (i + 2)
   equal-heat vf ve x q (inl e) f = e
   equal-heat vf ve x q (inr e) f =
       let is = e (is-true (finite (q .s)) f) in

@@ -14,9 +14,9 @@ use lib.Ieee.{Float, nan, inf, le}
 use lib.Ieee.Scale.{finite}
 use Rattle.numeric.specs.Double.{_⊛_, zero-f, one-f}
 use Rattle.numeric.specs.Zeros.{SameValue}
-use Rattle.numeric.specs.Turns.{turns}
+use Rattle.numeric.specs.Iterate.{iterate}
 use Rattle.numeric.specs.Holds.{holds}
-use Rattle.numeric.specs.Sum2.{nothing-added, accumulate, sumTurn}
+use Rattle.numeric.specs.Sum2.{nothing-added, accumulate, addAt}
 use Rattle.numeric.proofs.Finite.{sum-parts-finite}
 use Rattle.mixing.specs.Round.{Walk, joins, pair, oneRound}
 use Rattle.mixing.specs.Rearrange.{rises, isSorted}
@@ -28,8 +28,8 @@ use Rattle.mixing.proofs.InOrder.{group-order}
 use Rattle.mixing.proofs.Written.{written, written-lower, written-upper, written-finite, lower-finite, upper-finite, walk-more, passed-more}
 
 -- ---- a group of one layer
-one-sum : (g : ℕ → Float) (i : ℕ) → turns (sumTurn g) (i + 1 - i) i nothing-added ≡ accumulate nothing-added (g i)
-unfolding turns
+one-sum : (g : ℕ → Float) (i : ℕ) → iterate (addAt g) (i + 1 - i) i nothing-added ≡ accumulate nothing-added (g i)
+unfolding iterate
 one-sum g i = let e : i + 1 - i ≡ 1 = omega arith in rw e refl
 
 -- the one layer between i and i
@@ -38,7 +38,7 @@ only i k P l u p = let e : i ≡ k = omega arith in rw (← e) p
 
 -- what is known of the group of the layer i, in the array w
 module _ (n : ℕ) (vol first : List Float) (i : ℕ) (w : List Float) (below : Float) (sorted : Bool) (met : Float) (q : RunningGroup) (h : i < n) (s : Started i (getD w i nan) (getD vol i nan) below sorted met q) where
-  one-as-defined : turns (pair n vol) i 0 (record { temps = first; bottom = 0 }) ≡ record { temps = w; bottom = i } → HeatFinite n vol w → below ≡ layerBelow w i → sorted ≡ holds (rises w) (i - 1) 0 → AsDefined n vol first i w q
+  one-as-defined : iterate (pair n vol) i 0 (record { temps = first; bottom = 0 }) ≡ record { temps = w; bottom = i } → HeatFinite n vol w → below ≡ layerBelow w i → sorted ≡ holds (rises w) (i - 1) 0 → AsDefined n vol first i w q
   one-as-defined walk fine b o = record {
     walk = rw (s .bottom-is, s .temp-is) (walk ∙ ap (λ (z : List Float). record { temps = z; bottom = i }) (sym (fill-own i w)));
     temp-fits = rw (s .temp-is) (s .temp-fits);
@@ -55,7 +55,7 @@ module _ (n : ℕ) (vol first : List Float) (i : ℕ) (w : List Float) (below : 
 
 -- ---- the lowest layer
 pub follows-start : (n : ℕ) (vol first : List Float) (q : RunningGroup) → 0 < n → Started 0 (getD first 0 nan) (getD vol 0 nan) (inf true) true zero-f q → Follows n vol first 0 first q
-unfolding turns holds
+unfolding iterate holds
 follows-start n vol first q h s = record {
   ahead = λ j l. refl;
   passed = λ m k l.
@@ -83,7 +83,7 @@ module _ (n : ℕ) (vol first : List Float) (i : ℕ) (temps : List Float) (r : 
       rw (is-written d, d .order, d .below)
       (sym (group-order (i + 1) (r .temp) temps (lower-finite n vol first i temps r low h d) (λ k l. layer-there n vol temps (d .layers-finite) k (omega arith)) (r .bottom) (omega arith)))
 
-  parted-walk : AsDefined n vol first i temps r → joins (r .temp) (getD temps (i + 1) nan) ≡ false → turns (pair n vol) (i + 1) 0 (record { temps = first; bottom = 0 }) ≡ record { temps = w; bottom = i + 1 }
+  parted-walk : AsDefined n vol first i temps r → joins (r .temp) (getD temps (i + 1) nan) ≡ false → iterate (pair n vol) (i + 1) 0 (record { temps = first; bottom = 0 }) ≡ record { temps = w; bottom = i + 1 }
   unfolding pair
   parted-walk d j = walk-more n vol first i temps r low h d ∙ rw (written-lower n vol first i temps r low h d, written-upper n vol first i temps r low h d, j, is-written d) refl
 
@@ -110,7 +110,7 @@ module _ (n : ℕ) (vol first : List Float) (i : ℕ) (temps : List Float) (r : 
   last-part e m f =
       let d = f .as-defined m (rw (← e) (f .passed m)) in
       let last : n - 1 ≡ i = omega arith in
-      (is-written d ∙ sym (ap (λ (k : ℕ). turns (pair n vol) k 0 (record { temps = first; bottom = 0 }) .temps) last ∙ ap (λ (z : Walk). z .temps) (d .walk)), in-order d ∙ rw e refl)
+      (is-written d ∙ sym (ap (λ (k : ℕ). iterate (pair n vol) k 0 (record { temps = first; bottom = 0 }) .temps) last ∙ ap (λ (z : Walk). z .temps) (d .walk)), in-order d ∙ rw e refl)
 
 -- ---- the last group has ended
 pub follows-end : (n : ℕ) (vol first : List Float) (i : ℕ) (temps : List Float) (r : RunningGroup) (w : List Float) → r .bottom ≤ i → i + 1 ≡ n → Ended (r .bottom) n (r .temp) temps w → T (finite (r .met)) → Follows n vol first i temps r → (w ≡ oneRound n vol first) × (cond (r .sorted) (le (r .below) (r .temp)) false ≡ isSorted n w)

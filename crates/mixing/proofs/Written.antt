@@ -10,7 +10,7 @@ use lib.ListN.{length, getD}
 use lib.Ieee.{Float, nan}
 use lib.Ieee.Scale.{finite}
 use Rattle.numeric.specs.Double.{_⊛_}
-use Rattle.numeric.specs.Turns.{turns, turns-more}
+use Rattle.numeric.specs.Iterate.{iterate, iterate-more}
 use Rattle.numeric.proofs.Finite.{product-parts-finite}
 use Rattle.mixing.specs.Round.{fill, pair}
 use Rattle.mixing.specs.Running.{HeatFinite, AsDefined}
@@ -51,5 +51,5 @@ module _ (n : ℕ) (vol first : List Float) (i : ℕ) (temps : List Float) (r : 
   upper-finite b = product-parts-finite (getD vol (i + 1) nan) (getD temps (i + 1) nan) (d .layers-finite (i + 1) b) .1
 
   -- the walk's next pair is worked on them
-  pub walk-more : turns (pair n vol) (i + 1) 0 (record { temps = first; bottom = 0 }) ≡ pair n vol i (record { temps = written i temps r; bottom = r .bottom })
-  walk-more = turns-more (pair n vol) i 0 (record { temps = first; bottom = 0 }) ∙ rw (zero-add, d .walk) refl
+  pub walk-more : iterate (pair n vol) (i + 1) 0 (record { temps = first; bottom = 0 }) ≡ pair n vol i (record { temps = written i temps r; bottom = r .bottom })
+  walk-more = iterate-more (pair n vol) i 0 (record { temps = first; bottom = 0 }) ∙ rw (zero-add, d .walk) refl

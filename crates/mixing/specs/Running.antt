@@ -10,9 +10,9 @@ use lib.Ieee.{Float, nan, inf, binary64, fits, isNan}
 use lib.Ieee.Scale.{finite}
 use Rattle.numeric.specs.Double.{_⊕_, _⊛_, one-f, dbl, _⊖_, zero-f, four-f}
 use Rattle.numeric.specs.Zeros.{SameValue}
-use Rattle.numeric.specs.Turns.{turns}
+use Rattle.numeric.specs.Iterate.{iterate}
 use Rattle.numeric.specs.Holds.{holds}
-use Rattle.numeric.specs.Sum2.{nothing-added, accumulate, sumTurn}
+use Rattle.numeric.specs.Sum2.{nothing-added, accumulate, addAt}
 use Rattle.numeric.specs.declared.sum2.Accumulator.{Accumulator}
 use Rattle.mixing.specs.Round.{joins, fill, pair}
 use Rattle.mixing.specs.Rearrange.{rises}
@@ -20,11 +20,11 @@ use Rattle.mixing.specs.declared.running.RunningGroup.{RunningGroup}
 
 -- ---- sums over a group's layers alone, from bottom to below end
 abbrev pub volumeSum : List Float → ℕ → ℕ → Accumulator
-volumeSum vol bottom end = turns (sumTurn (λ (k : ℕ). getD vol k nan ⊛ one-f)) (end - bottom) bottom nothing-added
+volumeSum vol bottom end = iterate (addAt (λ (k : ℕ). getD vol k nan ⊛ one-f)) (end - bottom) bottom nothing-added
 
 -- volume × temperature, where all of them have the temperature x
 abbrev pub heatSum : List Float → Float → ℕ → ℕ → Accumulator
-heatSum vol x bottom end = turns (sumTurn (λ (k : ℕ). getD vol k nan ⊛ x)) (end - bottom) bottom nothing-added
+heatSum vol x bottom end = iterate (addAt (λ (k : ℕ). getD vol k nan ⊛ x)) (end - bottom) bottom nothing-added
 
 -- a guess at the total of a layer's own heat and the heat p, volume v × temp, of each of more + 1 layers. Nothing rests on it: it is used where the total is the same.
 abbrev two-f : Float
@@ -84,7 +84,7 @@ module _ (n : ℕ) (vol first : List Float) (i : ℕ) (temps : List Float) (r : 
   -- where every product met is finite
   pub record AsDefined : Type 0 where
     -- the walk by definition, in which the group's layers have its temperature already
-    pub walk : turns (pair n vol) i 0 (record { temps = first; bottom = 0 }) ≡ record { temps = fill (r .bottom) (i + 1) (r .temp) temps; bottom = r .bottom }
+    pub walk : iterate (pair n vol) i 0 (record { temps = first; bottom = 0 }) ≡ record { temps = fill (r .bottom) (i + 1) (r .temp) temps; bottom = r .bottom }
     pub temp-fits : T (fits binary64 (r .temp))
     pub layers-finite : HeatFinite n vol temps
     pub group-finite : (k : ℕ) → r .bottom ≤ k → k < i + 1 → T (finite (getD vol k nan ⊛ r .temp))

@@ -10,8 +10,8 @@ ghost use lib.Ieee.{Float, nan, le, eq};
 ghost use lib.Ieee.Scale.{finite};
 ghost use Rattle.numeric.specs.Double.{_⊕_, _⊛_, _⊘_, zero-f, one-f};
 ghost use Rattle.numeric.specs.Zeros.{SameValue};
-ghost use Rattle.numeric.specs.Turns.{turns};
-ghost use Rattle.numeric.specs.Sum2.{nothing-added, accumulate, sumTurn, total};
+ghost use Rattle.numeric.specs.Iterate.{iterate};
+ghost use Rattle.numeric.specs.Sum2.{nothing-added, accumulate, addAt, total};
 ghost use Rattle.mixing.specs.Limits.{maxLayers};
 ghost use Rattle.mixing.specs.Round.{oneRound};
 ghost use Rattle.mixing.specs.Rearrange.{isSorted};
@@ -76,7 +76,7 @@ fn heat_at(vol: &[f64; MAX_LAYERS], bottom: usize, end: usize, x: f64) -> Accumu
 // The same where each layer's product is p: from p alone, where that is above zero.
 fn even_heat(vol: &[f64; MAX_LAYERS], bottom: usize, end: usize, x: f64, p: f64) -> Accumulator
     requires { ⌜ (bottom < end) × (end ≤ maxLayers) ⌝ }
-    ensures { λ r. ⌜ (r ≡ heatSum (now (vol .entry)) x bottom end) ⊎ (finite (r .s) ≡ true → r ≡ turns (sumTurn (λ (k : ℕ). p)) (end - bottom) bottom nothing-added) ⌝ }
+    ensures { λ r. ⌜ (r ≡ heatSum (now (vol .entry)) x bottom end) ⊎ (finite (r .s) ≡ true → r ≡ iterate (addAt (λ (k : ℕ). p)) (end - bottom) bottom nothing-added) ⌝ }
 {
     if p > 0.0 {
         return numeric::sum2::equal_terms(p, end - bottom);

@@ -13,8 +13,8 @@ use lib.Ieee.Exact.{HasValue}
 use lib.Ieee.Positive.{positive, mul-at}
 use lib.Ieee.Scale.{finite, round-val, round-under}
 use Rattle.numeric.specs.Double.{_⊕_, _⊖_, _⊛_, zero-f, four-f, five-f}
-use Rattle.numeric.specs.Turns.{turns}
-use Rattle.numeric.specs.Sum2.{nothing-added, sumTurn}
+use Rattle.numeric.specs.Iterate.{iterate}
+use Rattle.numeric.specs.Sum2.{nothing-added, addAt}
 use Rattle.numeric.specs.declared.sum2.Accumulator.{Accumulator}
 use Rattle.numeric.proofs.Zeros.{isMinusZero, add-not-minus}
 use Rattle.numeric.proofs.Sterbenz.{unit, top, rounds-to, total, twice-short, units-at}
@@ -40,7 +40,7 @@ half-under : (n t : ℕ) → n + n + (n + n) < t → n + n < t
 half-under n t h = omega arith
 
 module _ (b : Float) (fb : T (fits binary64 b)) where
-  -- the state after four turns
+  -- the state after four terms
   four-known : lt zero-f b ≡ true → T (finite (four-f ⊛ b)) → fast (fast (fast (record { s = b; c = zero-f }) b) b) b ≡ record { s = four-f ⊛ b; c = zero-f }
   four-known h f =
       let B = above-zero b h (product-parts-finite four-f b f .1) in
@@ -64,7 +64,7 @@ module _ (b : Float) (fb : T (fits binary64 b)) where
         let known = four-known h f in
         let one = equals-one b fb in
         let four = equals-fast b 3 (fast (fast (record { s = b; c = zero-f }) b) b) fb (equals-fast b 2 (fast (record { s = b; c = zero-f }) b) fb (equals-fast b 1 (record { s = b; c = zero-f }) fb one)) in
-        subst (λ (a : Accumulator). T (le b (a .s)) × ((i : ℕ) → a ≡ turns (sumTurn (λ (j : ℕ). b)) 4 i nothing-added)) known (four .1 h (rw (ap (λ (a : Accumulator). a .s) known) f)),
+        subst (λ (a : Accumulator). T (le b (a .s)) × ((i : ℕ) → a ≡ iterate (addAt (λ (j : ℕ). b)) 4 i nothing-added)) known (four .1 h (rw (ap (λ (a : Accumulator). a .s) known) f)),
   )
 
   -- and after five
@@ -89,5 +89,5 @@ module _ (b : Float) (fb : T (fits binary64 b)) where
     λ h f.
         let known = five-known h f .1 in
         let five = equals-fast b 4 (record { s = four-f ⊛ b; c = zero-f }) fb four-equals in
-        subst (λ (a : Accumulator). T (le b (a .s)) × ((i : ℕ) → a ≡ turns (sumTurn (λ (j : ℕ). b)) 5 i nothing-added)) known (five .1 h (rw (ap (λ (a : Accumulator). a .s) known) f)),
+        subst (λ (a : Accumulator). T (le b (a .s)) × ((i : ℕ) → a ≡ iterate (addAt (λ (j : ℕ). b)) 5 i nothing-added)) known (five .1 h (rw (ap (λ (a : Accumulator). a .s) known) f)),
   )

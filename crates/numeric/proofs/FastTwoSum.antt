@@ -13,8 +13,8 @@ use lib.Ieee.Positive.{num, den, positive, cross→le}
 use lib.Ieee.Scale.{finite}
 use denote.Floats.{passes, is-true}
 use Rattle.numeric.specs.Double.{_⊕_, _⊖_, zero-f}
-use Rattle.numeric.specs.Turns.{turns, turns-more}
-use Rattle.numeric.specs.Sum2.{nothing-added, accumulate, sumTurn}
+use Rattle.numeric.specs.Iterate.{iterate, iterate-more}
+use Rattle.numeric.specs.Sum2.{nothing-added, accumulate, addAt}
 use Rattle.numeric.specs.declared.sum2.Accumulator.{Accumulator}
 use Rattle.numeric.proofs.Difference.{minus-self}
 use Rattle.numeric.proofs.Zeros.{isMinusZero, zero-plus, add-not-minus}
@@ -55,10 +55,10 @@ fast-two-sum a b p q h l g =
 
 -- ---- a Sum2 of equal terms above zero, where it is finite: k of them, from any index on, and it is at least one of them
 abbrev pub Equals : Float → ℕ → Accumulator → Type 0
-Equals b k a = T (fits binary64 (a .s)) × (lt zero-f b ≡ true → T (finite (a .s)) → T (le b (a .s)) × ((i : ℕ) → a ≡ turns (sumTurn (λ (j : ℕ). b)) k i nothing-added))
+Equals b k a = T (fits binary64 (a .s)) × (lt zero-f b ≡ true → T (finite (a .s)) → T (le b (a .s)) × ((i : ℕ) → a ≡ iterate (addAt (λ (j : ℕ). b)) k i nothing-added))
 
 pub equals-one : (b : Float) → T (fits binary64 b) → Equals b 1 (record { s = b; c = zero-f })
-unfolding turns
+unfolding iterate
 equals-one b p = (
   p,
   λ h f.
@@ -73,11 +73,11 @@ equals-more b k a q r e s m = (
       let parts = sum-parts-finite (a .s) b (rw (← s) f) in
       let old = e .1 h (parts .0) in (
         rw s (sum-above binary64 (a .s) b (above-zero b h (parts .1)) (e .0) r (old .0) (parts .0)),
-        λ i. m h (is-true (le b (a .s)) (old .0)) (is-true (finite (q .s)) f) ∙ rw (turns-more (sumTurn (λ (j : ℕ). b)) k i nothing-added, ← old .1 i) refl,
+        λ i. m h (is-true (le b (a .s)) (old .0)) (is-true (finite (q .s)) f) ∙ rw (iterate-more (addAt (λ (j : ℕ). b)) k i nothing-added, ← old .1 i) refl,
       ),
 )
 
--- a turn by FastTwoSum
+-- a term by FastTwoSum
 abbrev pub fast : Accumulator → Float → Accumulator
 fast a b = record { s = a .s ⊕ b; c = a .c ⊕ (b ⊖ (a .s ⊕ b ⊖ a .s)) }
 

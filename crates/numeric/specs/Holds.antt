@@ -33,8 +33,8 @@ module _ (p : ℕ → Bool) where
       let e : n - i ≡ suc (n - (i + 1)) = omega arith in
       rw e at (r .1)
 
-  pub passed-turn : (n i : ℕ) → i < n → p i ≡ true → Passed n i → Passed n (i + 1)
-  passed-turn n i h t r = (omega arith, rw t at (next n i h r))
+  pub passed-next : (n i : ℕ) → i < n → p i ≡ true → Passed n i → Passed n (i + 1)
+  passed-next n i h t r = (omega arith, rw t at (next n i h r))
 
   pub passed-fails : (n i : ℕ) → i < n → p i ≡ false → Passed n i → false ≡ holds n 0
   passed-fails n i h t r = rw t at (next n i h r)

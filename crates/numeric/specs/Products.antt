@@ -76,18 +76,18 @@ zero-flat s m e h =
     and-i (eqb (m * up e * 1) (0 * 1 * down e)) (Bool·beq s false || eqb (m * up e * 1) 0) (eqb-of (m * up e * 1) (0 * 1 * down e) (omega arith))
     (or-right (Bool·beq s false) (eqb (m * up e * 1) 0) (eqb-of (m * up e * 1) 0 (omega arith)))
 
-eq-turned : (x : Float) → T (eq zero-f x) → T (eq x zero-f)
+eq-swapped : (x : Float) → T (eq zero-f x) → T (eq x zero-f)
 unfolding eq ofBits
-eq-turned nan t = absurd t
-eq-turned (inf s) t = absurd t
-eq-turned (fin s m e) t = zero-flat s m e (flat (eqb→eq (0 * 1 * down e) (m * up e * 1) (and-l (eqb (0 * 1 * down e) (m * up e * 1)) (Bool·beq false s || eqb (0 * 1 * down e) 0) t)))
+eq-swapped nan t = absurd t
+eq-swapped (inf s) t = absurd t
+eq-swapped (fin s m e) t = zero-flat s m e (flat (eqb→eq (0 * 1 * down e) (m * up e * 1) (and-l (eqb (0 * 1 * down e) (m * up e * 1)) (Bool·beq false s || eqb (0 * 1 * down e) 0) t)))
   where
     flat : 0 * 1 * down e ≡ m * up e * 1 → m * up e ≡ 0
     flat h = omega arith
 
 zero-between : (x : Float) → T (le zero-f x) → T (not (lt zero-f x)) → T (eq x zero-f)
 unfolding le
-zero-between x h n = eq-turned x (or-other (lt zero-f x) (eq zero-f x) h n)
+zero-between x h n = eq-swapped x (or-other (lt zero-f x) (eq zero-f x) h n)
 
 zero-rounded : round binary64 false 0 1 ≡ zero-f
 unfolding round ofBits

@@ -5,8 +5,8 @@ ghost use Prim.Native.Nat.{ℕ, _≤_};
 ghost use lib.Ieee.{lt, le};
 ghost use lib.Ieee.Scale.{finite};
 ghost use Rattle.numeric.specs.Double.{_⊕_, zero-f};
-ghost use Rattle.numeric.specs.Turns.{turns};
-ghost use Rattle.numeric.specs.Sum2.{nothing-added, accumulate, sumTurn, total, sum2};
+ghost use Rattle.numeric.specs.Iterate.{iterate};
+ghost use Rattle.numeric.specs.Sum2.{nothing-added, accumulate, addAt, total, sum2};
 
 // The running sum and its correction.
 pub struct Accumulator {
@@ -52,7 +52,7 @@ pub fn one_term(b: f64) -> Accumulator
 // Sum2 of few equal terms: the same sum where they are above zero and it is finite. Each is at most the sum of those before it.
 fn few_equal_terms(b: f64, m: usize) -> Accumulator
     requires { ⌜ 1 ≤ m ⌝ }
-    ensures { λ r. ⌜ (lt zero-f b ≡ true → finite (r .s) ≡ true → (i : ℕ) → r ≡ turns (sumTurn (λ (k : ℕ). b)) m i nothing-added) ⌝ }
+    ensures { λ r. ⌜ (lt zero-f b ≡ true → finite (r .s) ≡ true → (i : ℕ) → r ≡ iterate (addAt (λ (k : ℕ). b)) m i nothing-added) ⌝ }
 {
     let mut a = Accumulator { s: b, c: 0.0 };
     let mut k = 1;
@@ -66,7 +66,7 @@ fn few_equal_terms(b: f64, m: usize) -> Accumulator
 // Sum2 of equal terms, of more than three from 4 b or 5 b on: four terms lose nothing, and neither of the two waits for a sum of the terms before it.
 pub fn equal_terms(b: f64, m: usize) -> Accumulator
     requires { ⌜ 1 ≤ m ⌝ }
-    ensures { λ r. ⌜ (lt zero-f b ≡ true → finite (r .s) ≡ true → (i : ℕ) → r ≡ turns (sumTurn (λ (k : ℕ). b)) m i nothing-added) ⌝ }
+    ensures { λ r. ⌜ (lt zero-f b ≡ true → finite (r .s) ≡ true → (i : ℕ) → r ≡ iterate (addAt (λ (k : ℕ). b)) m i nothing-added) ⌝ }
 {
     if m < 4 {
         return few_equal_terms(b, m);

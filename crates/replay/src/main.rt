@@ -129,9 +129,9 @@ fn main() {
         differ: 0,
         ended: false,
     };
-    let mut turns = MAX_BYTES;
-    while 0 < turns {
-        turns -= 1;
+    let mut records = MAX_BYTES;
+    while 0 < records {
+        records -= 1;
         if !t.ended {
             t = next_case(t);
         }

@@ -47,9 +47,9 @@ module _ (before : ℕ → ℕ → Bool) (n x : ℕ) where
     back y m h = rw (take-set-lt n order j y (r .high)) (drop-set-lt m (take n order) j y h)
 
     -- the next one is worked before x, and moves down
-    pub inserting-turn : j + 1 < n → before x (getD order (j + 1) 0) ≡ false → Inserting first (j + 1) (set order j (getD order (j + 1) 0))
+    pub inserting-next : j + 1 < n → before x (getD order (j + 1) 0) ≡ false → Inserting first (j + 1) (set order j (getD order (j + 1) 0))
     unfolding insert
-    inserting-turn h b =
+    inserting-next h b =
         let y = getD order (j + 1) 0 in
         record {
           low = omega (arith, r .low);

@@ -61,9 +61,9 @@ module _ (before : ℕ → ℕ → Bool) (n : ℕ) where
     parts : withHeater before n (x - 1) order ≡ (take (x - 1) order ++ placed) ++ drop n order
     parts = sym (append-assoc (take (x - 1) order) placed (drop n order))
 
-    pub sorted-turn : (after : List ℕ) → after ≡ withHeater before n (x - 1) order → Sorted (x - 1) after
+    pub sorted-next : (after : List ℕ) → after ≡ withHeater before n (x - 1) order → Sorted (x - 1) after
     unfolding tabulate insertionSort
-    sorted-turn after s =
+    sorted-next after s =
         let e : x - 1 + 1 ≡ x = omega arith in
         let d : n - (x - 1) ≡ suc (n - x) = omega (arith, r .high) in
         let first : take n after ≡ take (x - 1) order ++ placed = rw (s, parts) (take-at (take (x - 1) order ++ placed) (drop n order) n both-long) in

@@ -3,7 +3,7 @@ use mathlib.Core.Path.{sym, _∙_}
 use Prim.Native.Nat.{_+_, _-_}
 use native.Mathlib.Omega.{arith}
 use Rattle.working_order.specs.Order.{notAbove}
-use Rattle.working_order.proofs.Insert.{Inserting, inserting-start, inserting-turn, inserting-stop, inserting-end}
+use Rattle.working_order.proofs.Insert.{Inserting, inserting-start, inserting-next, inserting-stop, inserting-end}
 use borrow.Author.Needs.{needs}
 use Rattle.working_order.proofs.insert_heater.Statement.{statement}
 use Rattle.working_order.proofs.insert_heater.Tie as tie
@@ -61,7 +61,7 @@ loop-less c = search needs
 loop-again : tie.Need-loop-again Inv-loop μ-loop
 loop-again c =
     let test = c .before .before .before in
-    inserting-turn _ _ _ _ _ _ (omega arith) (test .before .loop .inv) (test .loop-test .taken) (sym (c .before .is-not-above .ensures) ∙ c .if1 .left)
+    inserting-next _ _ _ _ _ _ (omega arith) (test .before .loop .inv) (test .loop-test .taken) (sym (c .before .is-not-above .ensures) ∙ c .if1 .left)
 
 mul-order-3 : tie.Need-mul-order-3 Inv-loop μ-loop
 mul-order-3 c = search needs

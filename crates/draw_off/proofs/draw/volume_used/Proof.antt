@@ -2,8 +2,8 @@
 use Prim.Native.Nat.{ℕ, _-_}
 use lib.ListN.{getD}
 use lib.Ieee.{nan}
-use Rattle.numeric.specs.Turns.{Span, span-start, span-turn, span-end}
-use Rattle.numeric.specs.Sum2.{sumTurn, sum2-turns}
+use Rattle.numeric.specs.Iterate.{Span, span-start, span-next, span-end}
+use Rattle.numeric.specs.Sum2.{addAt, sum2-iterate}
 use Rattle.draw_off.specs.Draw.{volumeUsed}
 use Rattle.draw_off.proofs.Untouched.{sum-finished}
 use borrow.Author.Needs.{needs}
@@ -11,7 +11,7 @@ use Rattle.draw_off.proofs.draw.volume_used.Statement.{statement}
 use Rattle.draw_off.proofs.draw.volume_used.Tie as tie
 
 abbrev Inv-loop : tie.InvT-loop
-Inv-loop c held n a₀ k₀ a k = Span (sumTurn (λ (j : ℕ). getD held j nan)) n k₀ a₀ k a
+Inv-loop c held n a₀ k₀ a k = Span (addAt (λ (j : ℕ). getD held j nan)) n k₀ a₀ k a
 
 abbrev μ-loop : tie.MeasureT-loop
 μ-loop c held n a₀ k₀ a k = n - k
@@ -35,7 +35,7 @@ loop-less : tie.Need-loop-less Inv-loop μ-loop
 loop-less c = search needs
 
 loop-again : tie.Need-loop-again Inv-loop μ-loop
-loop-again c = rw (c .add-term .ensures) (span-turn _ _ _ _ _ _ (c .before .before .loop-test .taken) (c .before .before .before .loop .inv))
+loop-again c = rw (c .add-term .ensures) (span-next _ _ _ _ _ _ (c .before .before .loop-test .taken) (c .before .before .before .loop .inv))
 
 total-of-requires : tie.Need-total-of-requires Inv-loop μ-loop
 total-of-requires c κs = search needs
@@ -46,7 +46,7 @@ returns c =
     let sum = c .before in
     let at = sum .before .before in
     let start = at .before .before in
-    rw (sum2-turns, sum .total-of .ensures, span-end _ _ _ _ _ _ (sum .before .loop-test .left) (at .loop .inv), sum-finished _ (start .args .kept) _ (start .pre .1) (start .pre .2))
+    rw (sum2-iterate, sum .total-of .ensures, span-end _ _ _ _ _ _ (sum .before .loop-test .left) (at .loop .inv), sum-finished _ (start .args .kept) _ (start .pre .1) (start .pre .2))
 
 pub volume-used-spec : {M : Type 1} → statement M
 volume-used-spec =

@@ -9,7 +9,7 @@ use lib.Ieee.{Float, nan}
 use Rattle.numeric.specs.Tabulate.{tabulate}
 use Rattle.draw_off.specs.Event.{drawAll}
 use Rattle.draw_off.specs.Kept.{IsSumOf}
-use Rattle.draw_off.proofs.Worked.{events-turn, events-refused, events-end}
+use Rattle.draw_off.proofs.Worked.{events-next, events-refused, events-end}
 use borrow.Author.Needs.{needs}
 use Rattle.draw_off.proofs.event.draw_events.Statement.{statement}
 use Rattle.draw_off.proofs.event.draw_events.Tie as tie
@@ -59,7 +59,7 @@ loop-again c =
     let test = event .before .before .before in
     let at = test .before .loop in
     let a = test .before .before .before .args in
-    (omega arith, events-turn (a .c) (a .feed) (volumeAt (a .volumes .now)) _ _ (at .temps) _ (at .t) (event .draw-event .result .answer) _ (test .loop-test .taken) (at .inv .1) (event .draw-event .ensures .0) (told .if1 .left), event .draw-event .ensures .1)
+    (omega arith, events-next (a .c) (a .feed) (volumeAt (a .volumes .now)) _ _ (at .temps) _ (at .t) (event .draw-event .result .answer) _ (test .loop-test .taken) (at .inv .1) (event .draw-event .ensures .0) (told .if1 .left), event .draw-event .ensures .1)
 
 returns-2 : tie.Need-returns-2 Inv-loop μ-loop
 returns-2 c =

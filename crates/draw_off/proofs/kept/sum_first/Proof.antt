@@ -2,15 +2,15 @@
 use Prim.Native.Nat.{ℕ, _-_}
 use lib.ListN.{getD}
 use lib.Ieee.{nan}
-use Rattle.numeric.specs.Turns.{Rest, rest-start, rest-turn, rest-end}
-use Rattle.numeric.specs.Sum2.{sumTurn}
+use Rattle.numeric.specs.Iterate.{Rest, rest-start, rest-next, rest-end}
+use Rattle.numeric.specs.Sum2.{addAt}
 use Rattle.draw_off.specs.Kept.{sumOfFirst}
 use borrow.Author.Needs.{needs}
 use Rattle.draw_off.proofs.kept.sum_first.Statement.{statement}
 use Rattle.draw_off.proofs.kept.sum_first.Tie as tie
 
 abbrev Inv-loop : tie.InvT-loop
-Inv-loop n vol a₀ k₀ a k = Rest (sumTurn (λ (j : ℕ). getD vol j nan)) n a₀ k a
+Inv-loop n vol a₀ k₀ a k = Rest (addAt (λ (j : ℕ). getD vol j nan)) n a₀ k a
 
 abbrev μ-loop : tie.MeasureT-loop
 μ-loop n vol a₀ k₀ a k = n - k
@@ -37,7 +37,7 @@ loop-less : tie.Need-loop-less Inv-loop μ-loop
 loop-less c = search needs
 
 loop-again : tie.Need-loop-again Inv-loop μ-loop
-loop-again c = rw (c .add-term .ensures) (rest-turn _ _ _ _ _ (c .before .before .loop-test .taken) (c .before .before .before .loop .inv))
+loop-again c = rw (c .add-term .ensures) (rest-next _ _ _ _ _ (c .before .before .loop-test .taken) (c .before .before .before .loop .inv))
 
 returns : tie.Need-returns Inv-loop μ-loop
 unfolding sumOfFirst

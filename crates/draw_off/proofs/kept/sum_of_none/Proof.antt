@@ -1,5 +1,5 @@
 -- `kept::sum_of_none` meets its contract (01, Draw): nothing is added.
-use Rattle.numeric.specs.Turns.{turns}
+use Rattle.numeric.specs.Iterate.{iterate}
 use Rattle.draw_off.specs.Kept.{sumOfFirst}
 use borrow.Author.Needs.{needs}
 use Rattle.draw_off.proofs.kept.sum_of_none.Statement.{statement}
@@ -9,7 +9,7 @@ start-requires : tie.Need-start-requires
 start-requires c κs = search needs
 
 returns : tie.Need-returns
-unfolding sumOfFirst turns
+unfolding sumOfFirst iterate
 returns c = λ xs. c .start .ensures
 
 pub sum-of-none-spec : {M : Type 1} → statement M

@@ -5,13 +5,13 @@ use native.Mathlib.Omega.{arith}
 use mathlib.Core.Path.{_≡_, refl, sym, _∙_}
 use mathlib.Core.Bool.{true}
 use mathlib.Core.Logic.{⊎-elim}
-use Rattle.numeric.specs.Descent.{Descent, descent-start, descent-turn, descent-stop, descent-end}
+use Rattle.numeric.specs.Descent.{Descent, descent-start, descent-next, descent-stop, descent-end}
 use Rattle.draw_off.specs.Refill.{takeFrom, refill}
 use Rattle.draw_off.specs.Lent.{fillingWith, refillOf}
 use Rattle.draw_off.specs.Run.{RepeatsAt}
 use Rattle.draw_off.proofs.Descents.{lackNone, refill-descends}
 use Rattle.draw_off.proofs.Filled.{lack-told, layer-refilled, mixes-now, mixes-still}
-use Rattle.draw_off.proofs.Refilling.{RefillLeft, left-turn}
+use Rattle.draw_off.proofs.Refilling.{RefillLeft, left-next}
 use Rattle.draw_off.proofs.Run.{layer-repeated, repeats-next}
 use borrow.Author.Needs.{needs}
 use Rattle.draw_off.proofs.refill.calc_temps_after_extraction.Statement.{statement}
@@ -92,7 +92,7 @@ filling-again c =
     let at = test .before .filling in
     let a = test .before .before .before .before .args in
     let over = first .before .is-over-full .ensures (first .if1 .taken) in (
-      left-turn (a .vol .now) (a .feed) (a .temps .now) _ _ _ _ _ (at .mixes) _ _ (at .mixes) (at .inv .0) (test .filling-test .taken) (over .upper .repeats .some) (layer-repeated _ _ _ (at .kept) over (a .feed) _ (at .mixes)),
+      left-next (a .vol .now) (a .feed) (a .temps .now) _ _ _ _ _ (at .mixes) _ _ (at .mixes) (at .inv .0) (test .filling-test .taken) (over .upper .repeats .some) (layer-repeated _ _ _ (at .kept) over (a .feed) _ (at .mixes)),
       λ e. repeats-next _ _ _ (at .kept) over,
     )
 
@@ -144,7 +144,7 @@ donors-again c =
     let none = c .before .before .before in
     let test = none .before .before in
     let a = test .before .before .before .before .before .before .before .before .before .before .before .before .before .before .before .args in
-    rw (c .take-from .ensures (a .vol .now) (a .feed)) (descent-turn _ _ _ _ _ _ (test .donors-test .taken) (sym (none .before .is-no-volume2 .ensures) ∙ none .if3 .left) (test .before .donors .inv))
+    rw (c .take-from .ensures (a .vol .now) (a .feed)) (descent-next _ _ _ _ _ _ (test .donors-test .taken) (sym (none .before .is-no-volume2 .ensures) ∙ none .if3 .left) (test .before .donors .inv))
 
 does-enter-warmer-requires :
     tie.Need-does-enter-warmer-requires Inv-donors μ-donors Inv-filling μ-filling
@@ -184,7 +184,7 @@ filling-again-2 c =
     let at = test .before .filling in
     let a = test .before .before .before .before .args in
     let warmer = warm .does-enter-warmer .ensures (a .vol .now) _ (donors .donors .held) in (
-      left-turn (a .vol .now) (a .feed) (a .temps .now) _ _ _ _ _ (at .mixes) _ _ _ (at .inv .0) (test .filling-test .taken)
+      left-next (a .vol .now) (a .feed) (a .temps .now) _ _ _ _ _ (at .mixes) _ _ _ (at .inv .0) (test .filling-test .taken)
           (lack-told _ _ _ (start .start-filling .result) _ _ (start .start-filling .ensures) (none .before .is-no-volume .ensures) (none .if2 .left))
           (layer-refilled (a .vol .now) (a .feed) _ _ _ _ (at .mixes) (donors .donors .held) (start .start-filling .result) (donors .donors .f) (fed .take-from-feed .result) _ record {
             starts = start .start-filling .ensures;

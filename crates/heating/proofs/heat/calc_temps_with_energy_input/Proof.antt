@@ -2,8 +2,8 @@
 use Prim.Native.Nat.{ℕ, _-_}
 use lib.Ieee.{Float}
 use Rattle.numeric.specs.Double.{_⊕_, _⊘_, zero-f}
-use Rattle.numeric.specs.Turns.{Rest, rest-start, rest-turn, rest-end}
-use Rattle.numeric.specs.Places.{updateTurn}
+use Rattle.numeric.specs.Iterate.{Rest, rest-start, rest-next, rest-end}
+use Rattle.numeric.specs.Places.{updateAt}
 use Rattle.cylinder.specs.Layers.{heatCapacity}
 use Rattle.heating.specs.Heat.{offer, heated}
 use borrow.Author.Needs.{needs}
@@ -11,7 +11,7 @@ use Rattle.heating.proofs.heat.calc_temps_with_energy_input.Statement.{
 use Rattle.heating.proofs.heat.calc_temps_with_energy_input.Tie as tie
 
 abbrev Inv-loop : tie.InvT-loop
-Inv-loop c vol on energy layer temps₀ n k₀ temps k = Rest (updateTurn (λ (j : ℕ) (t : Float). t ⊕ (offer on energy layer j ⊕ zero-f) ⊘ heatCapacity c vol j)) n temps₀ k temps
+Inv-loop c vol on energy layer temps₀ n k₀ temps k = Rest (updateAt (λ (j : ℕ) (t : Float). t ⊕ (offer on energy layer j ⊕ zero-f) ⊘ heatCapacity c vol j)) n temps₀ k temps
 
 abbrev μ-loop : tie.MeasureT-loop
 μ-loop c vol on energy layer temps₀ n k₀ temps k = n - k
@@ -50,7 +50,7 @@ loop-again : tie.Need-loop-again Inv-loop μ-loop
 loop-again c =
     let offered = c .before .before .before in
     let test = offered .before in
-    rw (offered .potential-energy-input .ensures) (rest-turn _ _ _ _ _ (test .loop-test .taken) (test .before .loop .inv))
+    rw (offered .potential-energy-input .ensures) (rest-next _ _ _ _ _ (test .loop-test .taken) (test .before .loop .inv))
 
 returns : tie.Need-returns Inv-loop μ-loop
 unfolding heated

@@ -1,6 +1,6 @@
 -- `record::add_heater` meets its contract (01, Job): a ninth heater is 2, any other is make's to judge.
 use borrow.Author.Tests.{lt-ltb, le-ltb}
-use Rattle.job_run.specs.Job.{heaterTurn}
+use Rattle.job_run.specs.Job.{heaterOutcome}
 use borrow.Author.Needs.{needs}
 use Rattle.job_run.proofs.record.add_heater.Statement.{statement}
 use Rattle.job_run.proofs.record.add_heater.Tie as tie
@@ -12,7 +12,7 @@ same-length : tie.Need-same-length
 same-length c = search needs
 
 returns : tie.Need-returns
-unfolding heaterTurn
+unfolding heaterOutcome
 returns c = rw (le-ltb _ _ (c .before .before .before .before .if1 .taken)) (c .before .before .refuse .ensures)
 
 with-heater-requires : tie.Need-with-heater-requires
@@ -25,7 +25,7 @@ same-length-2 : tie.Need-same-length-2
 same-length-2 c = search needs
 
 returns-2 : tie.Need-returns-2
-unfolding heaterTurn
+unfolding heaterOutcome
 returns-2 c = rw (lt-ltb _ _ (c .before .before .before .before .before .if1 .left), ← c .before .before .before .before .with-heater .ensures) (c .before .before .make-tank .ensures)
 
 pub add-heater-spec : {M : Type 1} → statement M

@@ -5,7 +5,7 @@ use native.Mathlib.Omega.{arith}
 use lib.Ieee.{nan}
 use lib.ListN.{length}
 use lib.Seq.{take-length}
-use Rattle.numeric.specs.Copy.{copied, copied-turn}
+use Rattle.numeric.specs.Copy.{copied, copied-next}
 use borrow.Author.Needs.{needs}
 use Rattle.mixing.proofs.mix.copy_in.Statement.{statement}
 use Rattle.mixing.proofs.mix.copy_in.Tie as tie
@@ -41,7 +41,7 @@ loop-again : tie.Need-loop-again Inv-loop μ-loop
 loop-again c =
     let test = c .before in
     let at = test .before .loop in
-    (omega arith, rw (at .inv .1) (copied-turn nan (at .i) _ _ (test .loop-test .taken) (omega arith)))
+    (omega arith, rw (at .inv .1) (copied-next nan (at .i) _ _ (test .loop-test .taken) (omega arith)))
 
 returns : tie.Need-returns Inv-loop μ-loop
 returns c =

@@ -6,7 +6,7 @@ use native.Mathlib.Omega.{arith}
 use lib.Ieee.{nan}
 use lib.ListN.{length, length-set}
 use lib.Seq.{drop-length}
-use Rattle.numeric.specs.Copy.{copied, copied-turn}
+use Rattle.numeric.specs.Copy.{copied, copied-next}
 use borrow.Author.Needs.{needs}
 use Rattle.mixing.proofs.mix.copy_out.Statement.{statement}
 use Rattle.mixing.proofs.mix.copy_out.Tie as tie
@@ -42,7 +42,7 @@ loop-again : tie.Need-loop-again Inv-loop μ-loop
 loop-again c =
     let test = c .before in
     let at = test .before .loop in
-    (simp length-set (omega arith), simp length-set (at .inv .1), rw (at .inv .2) (copied-turn nan (at .i) _ _ (omega arith) (omega arith)))
+    (simp length-set (omega arith), simp length-set (at .inv .1), rw (at .inv .2) (copied-next nan (at .i) _ _ (omega arith) (omega arith)))
 
 same-length : tie.Need-same-length Inv-loop μ-loop
 same-length c = search needs

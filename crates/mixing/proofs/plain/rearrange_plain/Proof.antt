@@ -6,7 +6,7 @@ use native.Mathlib.Omega.{arith}
 use native.Mathlib.Nat.{sub-zero}
 use Rattle.mixing.specs.Rearrange.{rounds, rearrange}
 use Rattle.mixing.specs.Mix.{answerOf, tempsOf}
-use Rattle.mixing.proofs.Rounds.{rounds-sorted, rounds-none, rounds-turn}
+use Rattle.mixing.proofs.Rounds.{rounds-sorted, rounds-none, rounds-next}
 use borrow.Author.Needs.{needs}
 use Rattle.mixing.proofs.plain.rearrange_plain.Statement.{statement}
 use Rattle.mixing.proofs.plain.rearrange_plain.Tie as tie
@@ -39,7 +39,7 @@ returns c =
     let test = ran .before .before in
     let at = test .before .loop in
     let s = sym (c .before .is-sorted .ensures) ∙ c .if1 .taken in
-    let e = at .inv .1 ∙ (rounds-turn _ (at .k) _ _ _ _ true (test .loop-test .taken) (ran .mix-round .ensures) s ∙ rounds-sorted _ _ _ _ _) in
+    let e = at .inv .1 ∙ (rounds-next _ (at .k) _ _ _ _ true (test .loop-test .taken) (ran .mix-round .ensures) s ∙ rounds-sorted _ _ _ _ _) in
     (sym (ap answerOf e), sym (ap (tempsOf _) e))
 
 loop-less : tie.Need-loop-less Inv-loop μ-loop
@@ -51,7 +51,7 @@ loop-again c =
     let test = ran .before .before in
     let at = test .before .loop in
     let s = sym (c .before .is-sorted .ensures) ∙ c .if1 .left in
-    (omega arith, at .inv .1 ∙ rounds-turn _ (at .k) _ _ _ _ false (test .loop-test .taken) (ran .mix-round .ensures) s)
+    (omega arith, at .inv .1 ∙ rounds-next _ (at .k) _ _ _ _ false (test .loop-test .taken) (ran .mix-round .ensures) s)
 
 returns-2 : tie.Need-returns-2 Inv-loop μ-loop
 returns-2 c =

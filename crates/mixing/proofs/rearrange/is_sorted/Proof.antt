@@ -1,7 +1,7 @@
 -- `rearrange::is_sorted` meets its contract (01, Mix). The loop's invariant: each pair passed rises.
 use Prim.Native.Nat.{_-_}
 use borrow.Author.Tests.{not-true, not-false}
-use Rattle.numeric.specs.Holds.{Passed, passed-start, passed-turn, passed-fails, passed-end}
+use Rattle.numeric.specs.Holds.{Passed, passed-start, passed-next, passed-fails, passed-end}
 use Rattle.mixing.specs.Rearrange.{rises, isSorted}
 use borrow.Author.Needs.{needs}
 use Rattle.mixing.proofs.rearrange.is_sorted.Statement.{statement}
@@ -49,7 +49,7 @@ loop-less c = search needs
 loop-again : tie.Need-loop-again Inv-loop μ-loop
 loop-again c =
     let test = c .before .before .before in
-    passed-turn _ _ _ (test .loop-test .taken) (not-false _ (c .if1 .left)) (test .before .loop .inv)
+    passed-next _ _ _ (test .loop-test .taken) (not-false _ (c .if1 .left)) (test .before .loop .inv)
 
 returns-2 : tie.Need-returns-2 Inv-loop μ-loop
 unfolding isSorted

@@ -7,7 +7,7 @@ use native.Mathlib.Nat.{sub-zero}
 use borrow.Author.Tests.{not-false}
 use Rattle.mixing.specs.Rearrange.{rounds, rearrange}
 use Rattle.mixing.specs.Mix.{answerOf, tempsOf}
-use Rattle.mixing.proofs.Rounds.{rounds-sorted, rounds-none, rounds-turn}
+use Rattle.mixing.proofs.Rounds.{rounds-sorted, rounds-none, rounds-next}
 use borrow.Author.Needs.{needs}
 use Rattle.mixing.proofs.rearrange.rearrange_temperatures.Statement.{statement}
 use Rattle.mixing.proofs.rearrange.rearrange_temperatures.Tie as tie
@@ -45,7 +45,7 @@ returns-2 c =
     let test = ran .before .before in
     let at = test .before .loop in
     let round = ran .try-round .ensures (not-false _ (c .before .if1 .left)) in
-    let e = at .inv .2 ∙ (rounds-turn _ (at .k) _ _ _ _ true (test .loop-test .taken) (round .0) (sym (round .1) ∙ c .if2 .taken) ∙ rounds-sorted _ _ _ _ _) in
+    let e = at .inv .2 ∙ (rounds-next _ (at .k) _ _ _ _ true (test .loop-test .taken) (round .0) (sym (round .1) ∙ c .if2 .taken) ∙ rounds-sorted _ _ _ _ _) in
     (sym (ap answerOf e), sym (ap (tempsOf _) e))
 
 loop-less : tie.Need-loop-less Inv-loop μ-loop
@@ -57,7 +57,7 @@ loop-again c =
     let test = ran .before .before in
     let at = test .before .loop in
     let round = ran .try-round .ensures (not-false _ (c .before .if1 .left)) in
-    (omega arith, at .inv .1, at .inv .2 ∙ rounds-turn _ (at .k) _ _ _ _ false (test .loop-test .taken) (round .0) (sym (round .1) ∙ c .if2 .left))
+    (omega arith, at .inv .1, at .inv .2 ∙ rounds-next _ (at .k) _ _ _ _ false (test .loop-test .taken) (round .0) (sym (round .1) ∙ c .if2 .left))
 
 returns-3 : tie.Need-returns-3 Inv-loop μ-loop
 returns-3 c =

@@ -4,7 +4,7 @@ use native.Mathlib.Omega.{arith}
 use mathlib.Core.List.{List}
 use lib.ListN.{set}
 use lib.Ieee.{Float}
-use Rattle.numeric.specs.Turns.{Span, span-start, span-turn, span-end}
+use Rattle.numeric.specs.Iterate.{Span, span-start, span-next, span-end}
 use borrow.Author.Needs.{needs}
 use Rattle.mixing.proofs.round.fill_group.Statement.{statement}
 use Rattle.mixing.proofs.round.fill_group.Tie as tie
@@ -31,7 +31,7 @@ loop-less : tie.Need-loop-less Inv-loop μ-loop
 loop-less c = search needs
 
 loop-again : tie.Need-loop-again Inv-loop μ-loop
-loop-again c = span-turn _ _ _ _ _ _ (c .loop-test .taken) (c .before .loop .inv)
+loop-again c = span-next _ _ _ _ _ _ (c .loop-test .taken) (c .before .loop .inv)
 
 returns : tie.Need-returns Inv-loop μ-loop
 returns c = span-end _ _ _ _ _ _ (c .loop-test .left) (c .before .loop .inv)

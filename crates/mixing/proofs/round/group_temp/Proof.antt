@@ -1,14 +1,14 @@
 -- `round::group_temp` meets its contract (01, Mix). The loop's invariant: both accumulators have the terms below k, and what is left gives the whole sums.
 use Prim.Native.Nat.{_-_}
-use Rattle.numeric.specs.Turns.{Rest, rest-start, rest-turn, rest-end}
-use Rattle.numeric.specs.Sum2.{sumTurn, sum2-turns}
+use Rattle.numeric.specs.Iterate.{Rest, rest-start, rest-next, rest-end}
+use Rattle.numeric.specs.Sum2.{addAt, sum2-iterate}
 use Rattle.mixing.specs.Round.{groupTemp, heatTerm, volumeTerm}
 use borrow.Author.Needs.{needs}
 use Rattle.mixing.proofs.round.group_temp.Statement.{statement}
 use Rattle.mixing.proofs.round.group_temp.Tie as tie
 
 abbrev Inv-loop : tie.InvT-loop
-Inv-loop n vol temps bottom end heat₀ volume₀ k₀ heat volume k = Rest (sumTurn (heatTerm vol temps bottom end)) n heat₀ k heat × Rest (sumTurn (volumeTerm vol bottom end)) n volume₀ k volume
+Inv-loop n vol temps bottom end heat₀ volume₀ k₀ heat volume k = Rest (addAt (heatTerm vol temps bottom end)) n heat₀ k heat × Rest (addAt (volumeTerm vol bottom end)) n volume₀ k volume
 
 abbrev μ-loop : tie.MeasureT-loop
 μ-loop n vol temps bottom end heat₀ volume₀ k₀ heat volume k = n - k
@@ -60,8 +60,8 @@ loop-again c =
     let member = c .before .before .before .before .before in
     let at = member .before .before in
     let l = member .before .loop-test .taken in (
-      rw (c .before .before .add-term .ensures, member .member-of .ensures) (rest-turn _ _ _ _ _ l (at .loop .inv .0)),
-      rw (c .add-term2 .ensures, member .member-of .ensures) (rest-turn _ _ _ _ _ l (at .loop .inv .1)),
+      rw (c .before .before .add-term .ensures, member .member-of .ensures) (rest-next _ _ _ _ _ l (at .loop .inv .0)),
+      rw (c .add-term2 .ensures, member .member-of .ensures) (rest-next _ _ _ _ _ l (at .loop .inv .1)),
     )
 
 total-of-requires : tie.Need-total-of-requires Inv-loop μ-loop
@@ -75,7 +75,7 @@ unfolding groupTemp
 returns c =
     let at = c .before .before .before in
     let l = c .before .before .loop-test .left in
-    rw (sum2-turns, sum2-turns, c .total-of2 .ensures, c .before .total-of .ensures, rest-end _ _ _ _ _ l (at .loop .inv .0), rest-end _ _ _ _ _ l (at .loop .inv .1), at .before .start2 .ensures, at .before .before .start .ensures)
+    rw (sum2-iterate, sum2-iterate, c .total-of2 .ensures, c .before .total-of .ensures, rest-end _ _ _ _ _ l (at .loop .inv .0), rest-end _ _ _ _ _ l (at .loop .inv .1), at .before .start2 .ensures, at .before .before .start .ensures)
 
 pub group-temp-spec : {M : Type 1} → statement M
 group-temp-spec =

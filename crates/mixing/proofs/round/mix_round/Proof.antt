@@ -2,7 +2,7 @@
 use mathlib.Core.Path.{ap}
 use Prim.Native.Nat.{_-_, _≤_}
 use native.Mathlib.Omega.{arith}
-use Rattle.numeric.specs.Turns.{Rest, rest-start, rest-turn, rest-end}
+use Rattle.numeric.specs.Iterate.{Rest, rest-start, rest-next, rest-end}
 use Rattle.mixing.specs.Round.{Walk, pair, oneRound}
 use Rattle.mixing.proofs.Group.{pair-bottom}
 use borrow.Author.Needs.{needs}
@@ -35,7 +35,7 @@ loop-again c =
     let test = c .before .before in
     let at = test .before in
     let e = c .mix-pair .ensures in
-    (rw (ap (λ (w : Walk). w .bottom) e) (pair-bottom _ _ _ _ (at .loop .inv .0)), rw e (rest-turn _ _ _ _ _ (test .loop-test .taken) (at .loop .inv .1)))
+    (rw (ap (λ (w : Walk). w .bottom) e) (pair-bottom _ _ _ _ (at .loop .inv .0)), rw e (rest-next _ _ _ _ _ (test .loop-test .taken) (at .loop .inv .1)))
 
 returns : tie.Need-returns Inv-loop μ-loop
 unfolding oneRound

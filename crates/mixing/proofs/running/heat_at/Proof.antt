@@ -4,14 +4,14 @@ use native.Mathlib.Omega.{arith}
 use lib.ListN.{getD}
 use lib.Ieee.{nan}
 use Rattle.numeric.specs.Double.{_⊛_}
-use Rattle.numeric.specs.Turns.{Span, span-start, span-turn, span-end}
-use Rattle.numeric.specs.Sum2.{sumTurn}
+use Rattle.numeric.specs.Iterate.{Span, span-start, span-next, span-end}
+use Rattle.numeric.specs.Sum2.{addAt}
 use borrow.Author.Needs.{needs}
 use Rattle.mixing.proofs.running.heat_at.Statement.{statement}
 use Rattle.mixing.proofs.running.heat_at.Tie as tie
 
 abbrev Inv-loop : tie.InvT-loop
-Inv-loop vol bottom end x heat₀ k₀ heat k = Span (sumTurn (λ (j : ℕ). getD vol j nan ⊛ x)) end k₀ heat₀ k heat
+Inv-loop vol bottom end x heat₀ k₀ heat k = Span (addAt (λ (j : ℕ). getD vol j nan ⊛ x)) end k₀ heat₀ k heat
 
 abbrev μ-loop : tie.MeasureT-loop
 μ-loop vol bottom end x heat₀ k₀ heat k = end - k
@@ -38,7 +38,7 @@ loop-less : tie.Need-loop-less Inv-loop μ-loop
 loop-less c = search needs
 
 loop-again : tie.Need-loop-again Inv-loop μ-loop
-loop-again c = rw (c .add-term .ensures) (span-turn _ _ _ _ _ _ (c .before .before .loop-test .taken) (c .before .before .before .loop .inv))
+loop-again c = rw (c .add-term .ensures) (span-next _ _ _ _ _ _ (c .before .before .loop-test .taken) (c .before .before .before .loop .inv))
 
 returns : tie.Need-returns Inv-loop μ-loop
 returns c = rw (← c .before .before .start .ensures) (span-end _ _ _ _ _ _ (c .loop-test .left) (c .before .loop .inv))

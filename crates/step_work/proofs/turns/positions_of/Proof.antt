@@ -8,7 +8,7 @@ use lib.Ieee.{Float, nan}
 use Rattle.numeric.specs.Double.{zero-f}
 use Rattle.numeric.specs.Tabulate.{tabulate}
 use Rattle.numeric.specs.Copy.{copied}
-use Rattle.numeric.proofs.Filling.{tabulated-turn, tabulated-end}
+use Rattle.numeric.proofs.Filling.{tabulated-next, tabulated-end}
 use Rattle.working_order.specs.Order.{maxHeaters}
 use Rattle.tank_model.specs.declared.Heater.{Heater}
 use Rattle.tank_model.specs.Fixed.{noHeater}
@@ -47,7 +47,7 @@ loop-less : tie.Need-loop-less Inv-loop μ-loop
 loop-less c = search needs
 
 loop-again : tie.Need-loop-again Inv-loop μ-loop
-loop-again c = (omega arith, rw (c .before .before .loop .inv .1) (tabulated-turn (positionAt (c .before .before .before .args .t1)) maxHeaters (c .before .before .loop .h) nan (replicate maxHeaters zero-f) (omega arith) (omega arith)))
+loop-again c = (omega arith, rw (c .before .before .loop .inv .1) (tabulated-next (positionAt (c .before .before .before .args .t1)) maxHeaters (c .before .before .loop .h) nan (replicate maxHeaters zero-f) (omega arith) (omega arith)))
 
 returns : tie.Need-returns Inv-loop μ-loop
 returns c =

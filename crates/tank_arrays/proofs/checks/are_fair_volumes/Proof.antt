@@ -5,7 +5,7 @@ use Prim.Native.Nat.{ℕ, _-_}
 use mathlib.Core.List.{List}
 use lib.ListN.{getD}
 use borrow.Author.Tests.{not-true, not-false}
-use Rattle.numeric.specs.Holds.{Passed, passed-start, passed-turn, passed-fails, passed-end}
+use Rattle.numeric.specs.Holds.{Passed, passed-start, passed-next, passed-fails, passed-end}
 use lib.Ieee.{Float, nan}
 use Rattle.tank_model.specs.Checks.{notNegative}
 use borrow.Author.Needs.{needs}
@@ -47,7 +47,7 @@ loop-less c = search needs
 loop-again : tie.Need-loop-again Inv-loop μ-loop
 loop-again c =
     let test = c .before .before .before in
-    passed-turn _ _ _ (test .loop-test .taken) (sym (c .before .is-not-negative .ensures) ∙ not-false _ (c .if1 .left)) (test .before .loop .inv)
+    passed-next _ _ _ (test .loop-test .taken) (sym (c .before .is-not-negative .ensures) ∙ not-false _ (c .if1 .left)) (test .before .loop .inv)
 
 returns-2 : tie.Need-returns-2 Inv-loop μ-loop
 returns-2 c = passed-end _ _ _ (c .loop-test .left) (c .before .loop .inv)
