@@ -29,6 +29,7 @@ use Rattle.tank_model.specs.Fixed as Fixed
 use Rattle.tank_model.specs.Order as Order
 use Rattle.tank_model.specs.FirstRefusal as FirstRefusal
 use Rattle.tank_model.specs.Checks as Checks
+use Rattle.tank_model.specs.Run as Run
 use Rattle.tank_model.specs.Work as Work
 use Rattle.storage_tank.specs.Calls as Calls
 
@@ -41,7 +42,7 @@ unfolding I.round I.ofInt I.ofBits I.add I.sub I.mul I.div I.neg I.lt I.le I.eq 
     Cold.cold Draw.givesAll Draw.share Draw.restAfter Draw.drawShare Draw.drawLayer Draw.drawLayers Draw.drawFeed Draw.extract Draw.volumeUsed
     Refill.takeShare Refill.takeFrom Refill.takeBelow Refill.fromFeed Refill.entersWarmer Refill.fillingOf Refill.refillLayer Refill.refillLayers
     Refill.refill
-    Event.eventMixing Event.eventOf Event.tempsAfterEvent Event.totalsAfterEvent Event.eventFinite Event.eventNumber Event.drawAll
+    Event.eventMixing Event.eventOf Event.tempsAfterEvent Event.totalsAfterEvent Event.eventFinite Event.eventNumber
     SetPoints.hasUpper SetPoints.upperOf Switch.atOrUnderLower Switch.upperMissingOrReached Switch.switchOn Switch.switchOff Heat.offersTo Heat.heated
     Losses.clearlyAbove Losses.overUpper Losses.standbyCoefficient Losses.warmed Losses.countedTemp Losses.standingLoss Losses.loss Losses.lossAt Losses.losses
     Losses.limitedTemp Losses.tempsAfter Losses.chargedAfter Losses.surplusTerm Losses.surplus Losses.adjusted
@@ -49,7 +50,7 @@ unfolding I.round I.ofInt I.ofBits I.add I.sub I.mul I.div I.neg I.lt I.le I.eq 
     Supply.demand Supply.supply Turn.afterHeat Turn.turn Turn.turnFinite Turn.turnNumber
     Fixed.placedHeaters Sorting.insert Sorting.insertionSort Sorting.risingOrder Order.workingOrder FirstRefusal.firstRefusal Checks.pointsCheck
     Checks.makeRefusal Checks.stepRefusal
-    Work.resume Work.andThen Work.endBy Work.events Work.averageOf Work.withAverage Work.turnOf Work.afterTurn
-    Work.heaterTurn Work.turns Work.opening Work.recoverable Work.closed Work.begin Work.work
+    Run.endBy Run.first Run.run
+    Work.workEvent Work.events Work.averageOf Work.turnOf Work.workTurn Work.turns Work.recoverable Work.close Work.thenTurns Work.begin Work.work
     Calls.fittedHeaters Calls.madeOf Calls.made Calls.answer Calls.stepped Calls.answered Calls.answers
 opened = tt

@@ -65,7 +65,9 @@ fn tell_turn(
     charged: &mut [f64; MAX_LAYERS],
 ) -> ToldTurn
     requires { ⌜ (1 ≤ c .layers) × (c .layers ≤ maxLayers) ⌝ }
-    ensures { λ r. ⌜ Told c h p (immersion (c .layers) x .thermostat) (now (temps .entry)) (turn c (now (vol .entry)) (immersion (c .layers) x) p (now (temps .entry)) (now (charged .entry)) flag) r (now (temps .exit)) (now (charged .exit)) ⌝ }
+    ensures { λ r. ⌜ Told c h p (immersion (c .layers) x .thermostat) (now (temps .entry))
+        (turn c (now (vol .entry)) (immersion (c .layers) x) p (now (temps .entry)) (now (charged .entry)) flag)
+        r (now (temps .exit)) (now (charged .exit)) ⌝ }
 {
     let i = tank_model::immersion_of(c.layers, x);
     let thermostat = i.thermostat;
@@ -99,8 +101,11 @@ fn tell_in_order(
     temps: &mut [f64; MAX_LAYERS],
     charged: &mut [f64; MAX_LAYERS],
 ) -> Turns
-    requires { ⌜ (1 ≤ c .layers) × (c .layers ≤ maxLayers) × (n ≤ maxHeaters) × (length (now order) ≡ maxHeaters) × ((k : ℕ) → k < n → getD (now order) k 0 < n) ⌝ }
-    ensures { λ r. ⌜ (r ≡ turnsOf (turnFacts c (now (vol .entry)) fitted settings (take n (now (order .entry))) (now (temps .entry)) (now (charged .entry)) flags)) × (r .count ≤ maxHeaters) ⌝ }
+    requires { ⌜ (1 ≤ c .layers) × (c .layers ≤ maxLayers) × (n ≤ maxHeaters)
+        × (length (now order) ≡ maxHeaters)
+        × ((k : ℕ) → k < n → getD (now order) k 0 < n) ⌝ }
+    ensures { λ r. ⌜ (r ≡ turnsOf (turnFacts c (now (vol .entry)) fitted settings (take n (now (order .entry))) (now (temps .entry)) (now (charged .entry)) flags))
+        × (r .count ≤ maxHeaters) ⌝ }
 {
     let mut r = no_turns();
     let mut on = flags;
@@ -135,7 +140,9 @@ fn tell_turns(
     charged: &mut [f64; MAX_LAYERS],
 ) -> Turns
     requires { ⌜ (1 ≤ c .layers) × (c .layers ≤ maxLayers) × (n ≤ maxHeaters) ⌝ }
-    ensures { λ r. ⌜ (r ≡ turnsOf (turnFacts c (now (vol .entry)) fitted settings (workingOrder (fixedBy c (placedHeaters n fitted))) (now (temps .entry)) (now (charged .entry)) flags)) × (r .count ≤ maxHeaters) ⌝ }
+    ensures { λ r. ⌜ (r ≡ turnsOf (turnFacts c (now (vol .entry)) fitted settings (workingOrder (fixedBy c (placedHeaters n fitted)))
+        (now (temps .entry)) (now (charged .entry)) flags))
+        × (r .count ≤ maxHeaters) ⌝ }
 {
     let heaters = tank_arrays::arrays::heaters_of(fitted);
     let order = working_order::working_order(n, &heaters);

@@ -97,7 +97,9 @@ fn put_turn_lines(buf: &mut [u8], at: usize, count: usize, facts: [TurnFact; MAX
 
 pub fn history_lines(buf: &mut [u8], index: usize, number: u8, r: Turns) -> usize
     requires { ⌜ r .count ≤ maxHeaters ⌝ }
-    ensures { λ n. ⌜ (n ≡ length (historyLines index number r)) × (now (buf .exit) ≡ written (now (buf .entry)) (historyLines index number r)) × (n ≤ maxText) ⌝ }
+    ensures { λ n. ⌜ (n ≡ length (historyLines index number r))
+        × (now (buf .exit) ≡ written (now (buf .entry)) (historyLines index number r))
+        × (n ≤ maxText) ⌝ }
 {
     let a = job_lines::lines::put_head(buf, index, number);
     let b = put_byte(buf, a, b'\n');

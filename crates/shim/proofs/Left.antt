@@ -14,7 +14,8 @@ use Rattle.tank_model.specs.declared.Step.{Step}
 use Rattle.tank_model.specs.declared.TankDesign.{TankDesign}
 use Rattle.tank_model.specs.Fixed.{fixedOf}
 use Rattle.tank_model.specs.Checks.{makeRefusal}
-use Rattle.tank_model.specs.Work.{End, refused, done, work}
+use Rattle.tank_model.specs.Run.{End, refused, done}
+use Rattle.tank_model.specs.Work.{Outcome, work}
 use Rattle.tank_arrays.specs.Arrays.{heaterIn, fittedIn, heatersOf, thermostatsOf, linesIn}
 use Rattle.tank_arrays.proofs.LentArrays.{places, heaters-back}
 use Rattle.storage_tank.specs.declared.StorageTank.{StorageTank}
@@ -69,7 +70,7 @@ fitted-kept : (t : StorageTank) (r : Report) (a : Step) → stepped t r a .tank 
 unfolding stepped answer
 fitted-kept t r a = go (work (fixedIn t) (stateIn t) a .end)
   where
-    go : (e : End) → answer t r e .tank .fitted ≡ t .fitted
+    go : (e : End Outcome) → answer t r e .tank .fitted ≡ t .fitted
     go (refused n) = refl
     go (done s) = refl
 

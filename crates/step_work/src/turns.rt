@@ -1,14 +1,14 @@
 // The heaters' turns of a step, in working order, each on the layers left by the one before.
 ghost use mathlib.Core.Path.{_≡_};
 ghost use mathlib.Core.Bool.{false};
-ghost use Prim.Native.Nat.{ℕ, _≤_, _<_};
-ghost use lib.ListN.{getD, length, take};
+ghost use Prim.Native.Nat.{_≤_, _<_};
+ghost use lib.ListN.{getD, take};
 ghost use Rattle.mixing.specs.Limits.{maxLayers};
 ghost use Rattle.immersion_heater.specs.Turn.{turn};
 ghost use Rattle.working_order.specs.Order.{maxHeaters};
 ghost use Rattle.tank_model.specs.Order.{workingOrder};
-ghost use Rattle.tank_arrays.specs.Arrays.{fittedIn, settingsIn, HoldsLines, fixedWith};
-ghost use Rattle.step_work.specs.Lent.{immersion, noTurns, heatedIn, TurnWorked, TurnsWorked};
+ghost use Rattle.tank_arrays.specs.Arrays.{settingsIn, HoldsLines};
+ghost use Rattle.step_work.specs.Lent.{immersion, fixedLent, noTurns, heatingIn, CanHeat, OrderOf, TurnWorked, TurnsWorked};
 use cylinder::Cylinder;
 use heating::SetPoints;
 use mixing::limits::MAX_LAYERS;
@@ -50,7 +50,12 @@ fn heat_turn(
     rounds: &mut [usize; MAX_HEATERS],
 ) -> TurnsAnswer
     requires { ⌜ (1 ≤ c .layers) × (c .layers ≤ maxLayers) × (h < maxHeaters) × HoldsLines (now figures) (now flags) (now rounds) ⌝ }
-    ensures { λ r. ⌜ TurnWorked c h (turn c (now (vol .entry)) (immersion (c .layers) x) p (now (temps .entry)) (now (charged .entry)) (getD (now (on .entry)) h false)) (heatedIn s (now (on .entry)) (now (figures .entry)) (now (flags .entry)) (now (rounds .entry))) (heatedIn r (now (on .exit)) (now (figures .exit)) (now (flags .exit)) (now (rounds .exit))) (now (temps .exit)) (now (charged .exit)) × HoldsLines (now (figures .exit)) (now (flags .exit)) (now (rounds .exit)) ⌝ }
+    ensures { λ r. ⌜ TurnWorked c h
+        (turn c (now (vol .entry)) (immersion (c .layers) x) p (now (temps .entry)) (now (charged .entry)) (getD (now (on .entry)) h false))
+        (heatingIn (now (temps .entry)) (now (charged .entry)) (now (on .entry)) s (now (figures .entry)) (now (flags .entry)) (now (rounds .entry)))
+        (r .number)
+        (heatingIn (now (temps .exit)) (now (charged .exit)) (now (on .exit)) r (now (figures .exit)) (now (flags .exit)) (now (rounds .exit)))
+        × HoldsLines (now (figures .exit)) (now (flags .exit)) (now (rounds .exit)) ⌝ }
 {
     let i = tank_model::immersion_of(c.layers, x);
     let u = immersion_heater::turn::turn(c, vol, i, p, on[h], temps, charged);
@@ -86,8 +91,13 @@ fn heat_in_order(
     flags: &mut [bool; MAX_HEATERS],
     rounds: &mut [usize; MAX_HEATERS],
 ) -> TurnsAnswer
-    requires { ⌜ (1 ≤ c .layers) × (c .layers ≤ maxLayers) × (n ≤ maxHeaters) × (length (now order) ≡ maxHeaters) × ((k : ℕ) → k < n → getD (now order) k 0 < n) × HoldsLines (now figures) (now flags) (now rounds) ⌝ }
-    ensures { λ r. ⌜ TurnsWorked c (now (vol .entry)) n (fittedIn (now (heaters .entry)) (now (thermostats .entry))) (settingsIn (now (present .entry)) (now (points .entry))) (take n (now (order .entry))) (now (temps .entry)) (now (charged .entry)) (heatedIn noTurns (now (on .entry)) (now (figures .entry)) (now (flags .entry)) (now (rounds .entry))) (heatedIn r (now (on .exit)) (now (figures .exit)) (now (flags .exit)) (now (rounds .exit))) (now (temps .exit)) (now (charged .exit)) × HoldsLines (now (figures .exit)) (now (flags .exit)) (now (rounds .exit)) ⌝ }
+    requires { ⌜ CanHeat c n × OrderOf n (now order) × HoldsLines (now figures) (now flags) (now rounds) ⌝ }
+    ensures { λ r. ⌜ TurnsWorked (fixedLent c (now (vol .entry)) n (now (heaters .entry)) (now (thermostats .entry))) (settingsIn (now (present .entry)) (now (points .entry)))
+        (take n (now (order .entry)))
+        (heatingIn (now (temps .entry)) (now (charged .entry)) (now (on .entry)) noTurns (now (figures .entry)) (now (flags .entry)) (now (rounds .entry)))
+        (r .number)
+        (heatingIn (now (temps .exit)) (now (charged .exit)) (now (on .exit)) r (now (figures .exit)) (now (flags .exit)) (now (rounds .exit)))
+        × HoldsLines (now (figures .exit)) (now (flags .exit)) (now (rounds .exit)) ⌝ }
 {
     let mut s = no_turns();
     let mut k = 0;
@@ -133,8 +143,13 @@ pub fn heat_turns(
     flags: &mut [bool; MAX_HEATERS],
     rounds: &mut [usize; MAX_HEATERS],
 ) -> TurnsAnswer
-    requires { ⌜ (1 ≤ c .layers) × (c .layers ≤ maxLayers) × (n ≤ maxHeaters) × HoldsLines (now figures) (now flags) (now rounds) ⌝ }
-    ensures { λ r. ⌜ TurnsWorked c (now (vol .entry)) n (fittedIn (now (heaters .entry)) (now (thermostats .entry))) (settingsIn (now (present .entry)) (now (points .entry))) (workingOrder (fixedWith c n (now (heaters .entry)) (now (thermostats .entry)))) (now (temps .entry)) (now (charged .entry)) (heatedIn noTurns (now (on .entry)) (now (figures .entry)) (now (flags .entry)) (now (rounds .entry))) (heatedIn r (now (on .exit)) (now (figures .exit)) (now (flags .exit)) (now (rounds .exit))) (now (temps .exit)) (now (charged .exit)) × HoldsLines (now (figures .exit)) (now (flags .exit)) (now (rounds .exit)) ⌝ }
+    requires { ⌜ CanHeat c n × HoldsLines (now figures) (now flags) (now rounds) ⌝ }
+    ensures { λ r. ⌜ TurnsWorked (fixedLent c (now (vol .entry)) n (now (heaters .entry)) (now (thermostats .entry))) (settingsIn (now (present .entry)) (now (points .entry)))
+        (workingOrder (fixedLent c (now (vol .entry)) n (now (heaters .entry)) (now (thermostats .entry))))
+        (heatingIn (now (temps .entry)) (now (charged .entry)) (now (on .entry)) noTurns (now (figures .entry)) (now (flags .entry)) (now (rounds .entry)))
+        (r .number)
+        (heatingIn (now (temps .exit)) (now (charged .exit)) (now (on .exit)) r (now (figures .exit)) (now (flags .exit)) (now (rounds .exit)))
+        × HoldsLines (now (figures .exit)) (now (flags .exit)) (now (rounds .exit)) ⌝ }
 {
     let order = working_order::working_order(n, heaters);
     heat_in_order(

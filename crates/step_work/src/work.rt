@@ -91,7 +91,11 @@ pub fn work_step(
     rounds: &mut [usize; MAX_HEATERS],
 ) -> WorkAnswer
     requires { ⌜ ZeroLines (now figures) (now flags) (now rounds) ⌝ }
-    ensures { λ r. ⌜ StepWorked (fixedWith c n (now (heaters .entry)) (now (thermostats .entry))) (record { temps = now (temps .entry); flags = now (on .entry) }) (stepWith feed events (now (volumes .entry)) entries (now (present .entry)) (now (points .entry))) r (now (temps .exit)) (now (on .exit)) (linesIn (now (figures .exit)) (now (flags .exit)) (now (rounds .exit))) × (r .number ≡ 0 → HoldsLines (now (figures .exit)) (now (flags .exit)) (now (rounds .exit))) ⌝ }
+    ensures { λ r. ⌜ StepWorked (fixedWith c n (now (heaters .entry)) (now (thermostats .entry)))
+        (record { temps = now (temps .entry); flags = now (on .entry) })
+        (stepWith feed events (now (volumes .entry)) entries (now (present .entry)) (now (points .entry)))
+        r (now (temps .exit)) (now (on .exit)) (linesIn (now (figures .exit)) (now (flags .exit)) (now (rounds .exit)))
+        × (r .number ≡ 0 → HoldsLines (now (figures .exit)) (now (flags .exit)) (now (rounds .exit))) ⌝ }
 {
     let k = tank_arrays::refusals::lent_refusal(
         c,

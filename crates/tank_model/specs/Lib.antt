@@ -3,6 +3,7 @@ pub mod Fixed
 pub mod Order
 pub mod FirstRefusal
 pub mod Checks
+pub mod Run
 pub mod Work
 pub mod History
 pub mod Members
