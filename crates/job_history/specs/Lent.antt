@@ -31,7 +31,8 @@ factBy h p thermostat before u = record {
 }
 
 -- r tells the turn u, which left these layers and these charged losses
-pub record Told (c : Cylinder) (h : ℕ) (p : SetPoints) (thermostat : ℕ) (before : List Float) (u : Turned) (r : ToldTurn) (temps charged : List Float) : Type 0 where
+pub record Told (c : Cylinder) (h : ℕ) (p : SetPoints) (thermostat : ℕ) (before : List Float) (u : Turned) (r : ToldTurn)
+    (temps charged : List Float) : Type 0 where
   pub answers : r ≡ record { number = turnNumber c u; fact = factBy h p thermostat before u }
   pub leaves : temps ≡ u .temps
   pub charges : charged ≡ u .charged

@@ -104,7 +104,8 @@ fn tell_in_order(
     requires { ⌜ (1 ≤ c .layers) × (c .layers ≤ maxLayers) × (n ≤ maxHeaters)
         × (length (now order) ≡ maxHeaters)
         × ((k : ℕ) → k < n → getD (now order) k 0 < n) ⌝ }
-    ensures { λ r. ⌜ (r ≡ turnsOf (turnFacts c (now (vol .entry)) fitted settings (take n (now (order .entry))) (now (temps .entry)) (now (charged .entry)) flags))
+    ensures { λ r. ⌜ (r ≡ turnsOf (turnFacts c (now (vol .entry)) fitted settings (take n (now (order .entry)))
+        (now (temps .entry)) (now (charged .entry)) flags))
         × (r .count ≤ maxHeaters) ⌝ }
 {
     let mut r = no_turns();

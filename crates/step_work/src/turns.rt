@@ -92,7 +92,8 @@ fn heat_in_order(
     rounds: &mut [usize; MAX_HEATERS],
 ) -> TurnsAnswer
     requires { ⌜ CanHeat c n × OrderOf n (now order) × HoldsLines (now figures) (now flags) (now rounds) ⌝ }
-    ensures { λ r. ⌜ TurnsWorked (fixedLent c (now (vol .entry)) n (now (heaters .entry)) (now (thermostats .entry))) (settingsIn (now (present .entry)) (now (points .entry)))
+    ensures { λ r. ⌜ TurnsWorked (fixedLent c (now (vol .entry)) n (now (heaters .entry)) (now (thermostats .entry)))
+        (settingsIn (now (present .entry)) (now (points .entry)))
         (take n (now (order .entry)))
         (heatingIn (now (temps .entry)) (now (charged .entry)) (now (on .entry)) noTurns (now (figures .entry)) (now (flags .entry)) (now (rounds .entry)))
         (r .number)
@@ -144,7 +145,8 @@ pub fn heat_turns(
     rounds: &mut [usize; MAX_HEATERS],
 ) -> TurnsAnswer
     requires { ⌜ CanHeat c n × HoldsLines (now figures) (now flags) (now rounds) ⌝ }
-    ensures { λ r. ⌜ TurnsWorked (fixedLent c (now (vol .entry)) n (now (heaters .entry)) (now (thermostats .entry))) (settingsIn (now (present .entry)) (now (points .entry)))
+    ensures { λ r. ⌜ TurnsWorked (fixedLent c (now (vol .entry)) n (now (heaters .entry)) (now (thermostats .entry)))
+        (settingsIn (now (present .entry)) (now (points .entry)))
         (workingOrder (fixedLent c (now (vol .entry)) n (now (heaters .entry)) (now (thermostats .entry))))
         (heatingIn (now (temps .entry)) (now (charged .entry)) (now (on .entry)) noTurns (now (figures .entry)) (now (flags .entry)) (now (rounds .entry)))
         (r .number)

@@ -71,7 +71,8 @@ pub fn write_line(
     rounds: &mut [usize; MAX_HEATERS],
 )
     requires { ⌜ (h < maxHeaters) × HoldsLines (now figures) (now flags) (now rounds) ⌝ }
-    ensures { λ r. ⌜ LineWritten h x (linesIn (now (figures .entry)) (now (flags .entry)) (now (rounds .entry))) (now (figures .exit)) (now (flags .exit)) (now (rounds .exit)) ⌝ }
+    ensures { λ r. ⌜ LineWritten h x (linesIn (now (figures .entry)) (now (flags .entry)) (now (rounds .entry)))
+        (now (figures .exit)) (now (flags .exit)) (now (rounds .exit)) ⌝ }
 {
     figures[h] = x.adjusted;
     figures[MAX_HEATERS + h] = x.supplied;

@@ -122,7 +122,8 @@ pub fn lent_refusal(
     present: &[bool; TWO_EACH],
     points: &[f64; TWO_EACH],
 ) -> u8
-    ensures { λ r. ⌜ RefusedFor (fixedWith c n (now (heaters .entry)) (now (thermostats .entry))) (now (temps .entry)) (stepWith feed events (now (volumes .entry)) entries (now (present .entry)) (now (points .entry))) r ⌝ }
+    ensures { λ r. ⌜ RefusedFor (fixedWith c n (now (heaters .entry)) (now (thermostats .entry))) (now (temps .entry))
+        (stepWith feed events (now (volumes .entry)) entries (now (present .entry)) (now (points .entry))) r ⌝ }
 {
     let finite = are_stored_finite(c.layers, temps);
     let k = tank_refusal(c, n, heaters, thermostats, finite);
