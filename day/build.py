@@ -21,7 +21,9 @@ PROGRAMS = ("job", "history", "long_job")
 SAID = re.compile(r"rt: (\w+) proved \((?:([0-9]+) s|unchanged.*)\)")
 
 # Seconds for each crate, measured once on a machine of two cores: what counts is how they compare.
-COSTS = {"numeric": 21, "mixing": 41, "working_order": 7, "cylinder": 6, "draw_off": 44, "heating": 38, "tank_model": 7}
+COSTS = {"numeric": 21, "mixing": 41, "working_order": 7, "cylinder": 6, "heating": 38, "tank_model": 7}
+COSTS.update({"draw_off": 14, "refill": 22, "draw_events": 20})
+COSTS.update({"immersion_heater": 20})
 COSTS.update({"tank_arrays": 36, "step_work": 39, "storage_tank": 20, "job_reader": 31, "job_lines": 33, "job_run": 32})
 COSTS.update({"streams": 14, "job_windows": 18, "job_history": 52, "job": 17, "history": 24, "long_job": 24})
 UNKNOWN = 30  # for a crate that is not among them

@@ -283,20 +283,20 @@ class Estimates(unittest.TestCase):
         self.assertLessEqual(set(build.COSTS), set(names))
 
     def test_left(self):
-        """mixing 41, then draw_off 44 beside heating 38, then cylinder 6: 91 seconds where two work at once."""
-        plan = [["mixing"], ["draw_off", "heating", "cylinder"]]
+        """mixing 41, then job_history 52 beside heating 38, then cylinder 6: 99 seconds where two work at once."""
+        plan = [["mixing"], ["job_history", "heating", "cylinder"]]
         estimate = self.estimate(plan)
-        self.assertEqual(self.left(estimate, 0), 41 + 44 + 6)
-        self.assertEqual(self.left(self.estimate(plan, 1), 0), 41 + 44 + 38 + 6)
-        self.assertEqual(self.left(estimate, 11), 30 + 44 + 6)
+        self.assertEqual(self.left(estimate, 0), 41 + 52 + 6)
+        self.assertEqual(self.left(self.estimate(plan, 1), 0), 41 + 52 + 38 + 6)
+        self.assertEqual(self.left(estimate, 11), 30 + 52 + 6)
         # Twice as long as was thought: what comes after will take twice as long too.
-        self.assertEqual(self.left(estimate, 82), 2 * (44 + 6))
+        self.assertEqual(self.left(estimate, 82), 2 * (52 + 6))
         # Twice as slow as the machine where the costs were measured.
         self.say(estimate, "rt: mixing proved (82 s)", 82)
-        self.assertEqual(self.left(estimate, 82), 2 * (44 + 6))
+        self.assertEqual(self.left(estimate, 82), 2 * (52 + 6))
         with mock.patch("time.monotonic", return_value=82):
-            self.assertEqual(estimate.words(), "building: crate 2 of 4, draw_off and heating; about 2 min left")
-        for name, took in (("draw_off", 88), ("heating", 76)):
+            self.assertEqual(estimate.words(), "building: crate 2 of 4, job_history and heating; about 2 min left")
+        for name, took in (("job_history", 104), ("heating", 76)):
             self.say(estimate, "rt: %s proved (%d s)" % (name, took), 170)
         self.assertEqual(self.left(estimate, 172), 10)
         self.say(estimate, "rt: cylinder proved (12 s)", 182)
@@ -304,9 +304,9 @@ class Estimates(unittest.TestCase):
         self.assertEqual(estimate.words(), "building: all 4 crates are proved, the programs are tried")
 
     def test_what_was_proved_before_says_nothing_of_speed(self):
-        estimate = self.estimate([["mixing"], ["draw_off"]])
+        estimate = self.estimate([["mixing"], ["job_history"]])
         self.say(estimate, "rt: mixing proved (unchanged since it was last proved)", 1)
-        self.assertEqual(self.left(estimate, 1), 44)
+        self.assertEqual(self.left(estimate, 1), 52)
 
     def test_in_words(self):
         said = [build.about(seconds) for seconds in (0, 9, 11, 44, 89, 90, 149, 151, 600)]

@@ -1,32 +1,26 @@
--- Proves that a draw leaves the layers that it does not reach as they were (01, Draw), so that their Sum2 may be kept from one event to the next.
+-- Proves that a draw leaves the layers that it does not reach as they were (01, Draw).
 use Prim.Native.Nat.{ℕ, zero, suc, _+_, _-_, _≤_, _<_}
 use native.Mathlib.Omega.{arith}
 use native.Mathlib.Numerals.{sub-one}
-use mathlib.Core.Path.{_≡_, refl, sym, ap, _∙_}
+use mathlib.Core.Path.{_≡_, refl, sym, _∙_}
 use mathlib.Core.Bool.{Bool, true, false, cond}
 use mathlib.Core.List.{List}
 use lib.ListN.{getD}
 use lib.Seq.{getD-set-other}
 use lib.Ieee.{Float, nan, lt}
 use Rattle.numeric.specs.Double.{zero-f}
-use Rattle.numeric.specs.declared.sum2.Accumulator.{Accumulator}
-use Rattle.numeric.specs.Descent.{Descent, chosen, descent-start, descent-turn}
-use Rattle.numeric.specs.Turns.{turns, turns-split}
-use Rattle.numeric.specs.Sum2.{accumulate, nothing-added, sumTurn}
+use Rattle.numeric.specs.Descent.{Descent, chosen, descent-start, descent-next}
 use Rattle.cylinder.specs.declared.Cylinder.{Cylinder}
 use Rattle.cylinder.specs.Layers.{noVolume}
-use Rattle.draw_off.specs.declared.draw.Drawn.{Drawn}
-use Rattle.draw_off.specs.declared.kept.KeptSum.{KeptSum}
+use Rattle.draw_off.specs.declared.cold.Feed.{Feed}
 use Rattle.draw_off.specs.Draw.{Draw, drawShare, drawLayer, drawLayers, unreached, drawFeed, drawStart, extract, untouched}
-use Rattle.draw_off.specs.Lent.{drawOf}
-use Rattle.draw_off.specs.Kept.{sumOfFirst, IsSumOf}
 use Rattle.draw_off.proofs.Descents.{restNone}
 
 -- the first n places have the same
 abbrev pub SameBelow : ℕ → List Float → List Float → Type 0
 SameBelow n xs ys = (k : ℕ) → k < n → getD xs k nan ≡ getD ys k nan
 
-module _ (c : Cylinder) (feed : Float) (temps : List Float) (wanted : Float) where
+module _ (c : Cylinder) (feed : Feed) (temps : List Float) (wanted : Float) where
   -- the layer i leaves those below it
   layer-leaves : (i : ℕ) (d : Draw) → SameBelow i (drawLayer c feed temps wanted i d .held) (d .held)
   unfolding drawLayer drawShare
@@ -50,7 +44,7 @@ module _ (c : Cylinder) (feed : Float) (temps : List Float) (wanted : Float) whe
 
     pub left-layer : (i : ℕ) (d e : Draw) → LayersLeft i d → 0 < i → noVolume (d .rest) ≡ false → e ≡ drawLayer c feed temps wanted (i - 1) d → LayersLeft (i - 1) e
     left-layer i d e l h some drawn = record {
-      descent = rw drawn (descent-turn restNone (drawLayer c feed temps wanted) n d₀ i d h some (l .descent));
+      descent = rw drawn (descent-next restNone (drawLayer c feed temps wanted) n d₀ i d h some (l .descent));
       reach = rw drawn ((rw some at (sym (reach-step i d h))) ∙ l .reach);
     }
 
@@ -86,44 +80,16 @@ module _ (c : Cylinder) (feed : Float) (temps : List Float) (wanted : Float) whe
       kept-either (noVolume (d .rest)) (suc i) (unreached c feed temps wanted i next) d (drawLayers c feed temps wanted i next) (d .held) (λ k h. refl)
       (λ k h. reach-leaves i next k h ∙ layer-leaves i d k (omega arith))
 
-  feed-leaves : (d : Draw) → drawFeed c feed temps wanted d .held ≡ d .held
+  feed-leaves : (d : Draw) → drawFeed c feed d .held ≡ d .held
   unfolding drawFeed
   feed-leaves d = chosen (λ (e : Draw). e .held ≡ d .held) (lt zero-f (d .rest)) _ d refl refl
 
--- ---- the sum of layers that are as they were
-module _ (xs ys : List Float) (n : ℕ) (same : SameBelow n xs ys) where
-  terms-same : (k i : ℕ) (a : Accumulator) → i + k ≤ n → turns (sumTurn (λ (j : ℕ). getD xs j nan)) k i a ≡ turns (sumTurn (λ (j : ℕ). getD ys j nan)) k i a
-  unfolding turns
-  terms-same zero i a h = refl
-  terms-same (suc k) i a h = rw (same i (omega arith)) (terms-same k (i + 1) (accumulate a (getD ys i nan)) (omega arith))
-
-  -- a kept sum is that of any layers that have the same
-  sum-moved : (kept : KeptSum) → kept .layers ≡ n → IsSumOf ys kept → IsSumOf xs kept
-  unfolding sumOfFirst
-  sum-moved kept e s = s ∙ rw e (sym (terms-same n 0 nothing-added (omega arith)))
-
--- ---- what the draw did not reach, and its sum
-module _ (c : Cylinder) (feed : Float) (temps : List Float) (wanted : Float) (vol : List Float) (weighted drawn : Float) where
+-- ---- what the draw did not reach
+module _ (c : Cylinder) (feed : Feed) (temps : List Float) (wanted : Float) (vol : List Float) (weighted drawn : Float) where
   pub untouched-within : untouched c vol feed temps wanted weighted drawn ≤ c .layers
   unfolding untouched
   untouched-within = reach-within c feed temps wanted (c .layers) (drawStart vol wanted weighted drawn)
 
-  untouched-same : SameBelow (untouched c vol feed temps wanted weighted drawn) (extract c vol feed temps wanted weighted drawn .held) vol
+  pub untouched-same : SameBelow (untouched c vol feed temps wanted weighted drawn) (extract c vol feed temps wanted weighted drawn .held) vol
   unfolding untouched extract
-  untouched-same = rw (feed-leaves c feed temps wanted) (reach-leaves c feed temps wanted (c .layers) (drawStart vol wanted weighted drawn))
-
-  -- the draw leaves `held` and answers d; the sum kept of the full layers that it did not reach is still theirs
-  pub sum-untouched : (held : List Float) (d : Drawn) (kept : KeptSum) → (drawOf held d ≡ extract c vol feed temps wanted weighted drawn) × (d .untouched ≡ untouched c vol feed temps wanted weighted drawn) → (kept .layers ≡ d .untouched) × IsSumOf vol kept → (kept .layers ≤ c .layers) × IsSumOf held kept
-  sum-untouched held d kept draws sum =
-      let within = untouched-within in
-      let left : SameBelow (d .untouched) held vol = rw (draws .1) (rw (← draws .0) at untouched-same) in
-      (omega (arith, draws .1, sum .0), sum-moved held vol (d .untouched) left kept (sum .0) (sum .1))
-
--- from a kept sum on, the other layers give the sum of all
-pub sum-finished : (xs : List Float) (kept : KeptSum) (n : ℕ) → kept .layers ≤ n → IsSumOf xs kept → turns (sumTurn (λ (j : ℕ). getD xs j nan)) (n - kept .layers) (kept .layers) (kept .sum) ≡ turns (sumTurn (λ (j : ℕ). getD xs j nan)) n 0 nothing-added
-unfolding sumOfFirst
-sum-finished xs kept n h s =
-    let g = sumTurn (λ (j : ℕ). getD xs j nan) in
-    let e : n ≡ kept .layers + (n - kept .layers) = omega arith in
-    let z : 0 + kept .layers ≡ kept .layers = omega arith in
-    rw s (sym (ap (λ (m : ℕ). turns g m 0 nothing-added) e ∙ turns-split g (kept .layers) (n - kept .layers) 0 nothing-added ∙ ap (λ (m : ℕ). turns g (n - kept .layers) m (turns g (kept .layers) 0 nothing-added)) z))
+  untouched-same = rw feed-leaves (reach-leaves c feed temps wanted (c .layers) (drawStart vol wanted weighted drawn))

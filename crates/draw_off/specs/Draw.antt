@@ -10,6 +10,7 @@ use Rattle.numeric.specs.Tabulate.{tabulate}
 use Rattle.numeric.specs.Sum2.{sum2}
 use Rattle.cylinder.specs.declared.Cylinder.{Cylinder}
 use Rattle.cylinder.specs.Layers.{noVolume}
+use Rattle.draw_off.specs.declared.cold.Feed.{Feed}
 use Rattle.draw_off.specs.Cold.{cold}
 
 -- where an event's draw has come to: what each layer still holds, the rest wanted, the event's energy, and the weighted sum and the volume drawn of
@@ -45,7 +46,7 @@ counted c v t cool held rest d = record {
   drawn = d .drawn ⊕ v;
 }
 
-module _ (c : Cylinder) (feed : Float) (temps : List Float) (wanted : Float) where
+module _ (c : Cylinder) (feed : Feed) (temps : List Float) (wanted : Float) where
   -- the layer i gives its share
   unfoldable pub drawShare : ℕ → Draw → Draw
   drawShare i d =
@@ -67,21 +68,21 @@ module _ (c : Cylinder) (feed : Float) (temps : List Float) (wanted : Float) whe
   unreached zero d = zero
   unreached (suc i) d = cond (noVolume (d .rest)) (suc i) (unreached i (drawLayer i d))
 
-  -- a rest above zero, however small, comes from the feed
-  unfoldable pub drawFeed : Draw → Draw
-  drawFeed d = cond (lt zero-f (d .rest)) (counted c (d .rest) feed (cold feed (d .rest)) (d .held) (d .rest) d) d
+-- a rest above zero, however small, comes from the feed
+unfoldable pub drawFeed : Cylinder → Feed → Draw → Draw
+drawFeed c feed d = cond (lt zero-f (d .rest)) (counted c (d .rest) (feed .temperature) (cold feed (d .rest)) (d .held) (d .rest) d) d
 
 -- each event starts from full layers; `weighted` and `drawn` run through all events
 abbrev pub drawStart : List Float → Float → Float → Float → Draw
 drawStart vol wanted weighted drawn = record { held = vol; rest = wanted; energy = zero-f; weighted = weighted; drawn = drawn }
 
 -- what an event has drawn: the layers, and then the feed
-unfoldable pub extract : Cylinder → List Float → Float → List Float → Float → Float → Float → Draw
+unfoldable pub extract : Cylinder → List Float → Feed → List Float → Float → Float → Float → Draw
 extract c vol feed temps wanted weighted drawn =
-    drawFeed c feed temps wanted (drawLayers c feed temps wanted (c .layers) (drawStart vol wanted weighted drawn))
+    drawFeed c feed (drawLayers c feed temps wanted (c .layers) (drawStart vol wanted weighted drawn))
 
 -- how many layers, from the bottom, it leaves full
-unfoldable pub untouched : Cylinder → List Float → Float → List Float → Float → Float → Float → ℕ
+unfoldable pub untouched : Cylinder → List Float → Feed → List Float → Float → Float → Float → ℕ
 untouched c vol feed temps wanted weighted drawn = unreached c feed temps wanted (c .layers) (drawStart vol wanted weighted drawn)
 
 -- volume used: the tank's volume - Sum2 of what the layers still hold

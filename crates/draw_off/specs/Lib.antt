@@ -1,8 +1,4 @@
--- The definitions of the draw events, in 01's order.
+-- The definitions of cold water and of the draw.
 pub mod Cold
 pub mod Draw
-pub mod Refill
-pub mod Event
 pub mod Lent
-pub mod Run
-pub mod Kept

@@ -5,10 +5,9 @@ ghost use Prim.Native.Nat.{_≤_, _<_};
 ghost use lib.Ieee.{Float};
 ghost use Rattle.mixing.specs.Limits.{maxLayers};
 ghost use Rattle.draw_off.specs.Draw.{givesAll, share, restAfter, counted, drawShare, drawLayer, drawLayers, unreached, drawFeed};
-ghost use Rattle.draw_off.specs.Draw.{extract, untouched, volumeUsed};
+ghost use Rattle.draw_off.specs.Draw.{extract, untouched};
 ghost use Rattle.draw_off.specs.Lent.{drawOf};
-ghost use Rattle.draw_off.specs.Kept.{IsSumOf};
-use crate::kept::KeptSum;
+use crate::cold::Feed;
 use cylinder::Cylinder;
 use mixing::limits::MAX_LAYERS;
 
@@ -68,7 +67,7 @@ fn count_share(c: Cylinder, v: f64, t: f64, cool: f64, rest: f64, d: Drawn) -> D
 // The layer i gives its share, over water at cold(event volume).
 fn draw_share(
     c: Cylinder,
-    feed: f64,
+    feed: Feed,
     temps: &[f64; MAX_LAYERS],
     wanted: f64,
     i: usize,
@@ -90,7 +89,7 @@ fn draw_share(
 // An emptied layer is skipped.
 fn draw_layer(
     c: Cylinder,
-    feed: f64,
+    feed: Feed,
     temps: &[f64; MAX_LAYERS],
     wanted: f64,
     i: usize,
@@ -109,15 +108,17 @@ fn draw_layer(
 // From the top down, until the rest wanted is none.
 fn draw_layers(
     c: Cylinder,
-    feed: f64,
+    feed: Feed,
     temps: &[f64; MAX_LAYERS],
     wanted: f64,
     held: &mut [f64; MAX_LAYERS],
     start: Drawn,
 ) -> Drawn
     requires { ⌜ c .layers ≤ maxLayers ⌝ }
-    ensures drawn { λ r. ⌜ drawOf (now (held .exit)) r ≡ drawLayers c feed (now (temps .entry)) wanted (c .layers) (drawOf (now (held .entry)) start) ⌝ }
-    ensures left { λ r. ⌜ r .untouched ≡ unreached c feed (now (temps .entry)) wanted (c .layers) (drawOf (now (held .entry)) start) ⌝ }
+    ensures drawn { λ r. ⌜ drawOf (now (held .exit)) r
+        ≡ drawLayers c feed (now (temps .entry)) wanted (c .layers) (drawOf (now (held .entry)) start) ⌝ }
+    ensures left { λ r. ⌜ r .untouched
+        ≡ unreached c feed (now (temps .entry)) wanted (c .layers) (drawOf (now (held .entry)) start) ⌝ }
 {
     let mut d = start;
     let mut i = c.layers;
@@ -132,14 +133,14 @@ fn draw_layers(
 }
 
 // A rest above zero, however small, comes from the feed.
-fn draw_feed(c: Cylinder, feed: f64, d: Drawn) -> Drawn
-    ensures { λ r. ⌜ ((held temps : List Float) (wanted : Float) → drawOf held r ≡ drawFeed c feed temps wanted (drawOf held d)) ⌝ }
+fn draw_feed(c: Cylinder, feed: Feed, d: Drawn) -> Drawn
+    ensures { λ r. ⌜ ((held : List Float) → drawOf held r ≡ drawFeed c feed (drawOf held d)) ⌝ }
 {
     if d.rest > 0.0 {
         return count_share(
             c,
             d.rest,
-            feed,
+            feed.temperature,
             crate::cold::cold_temp(feed, d.rest),
             d.rest,
             d,
@@ -151,7 +152,7 @@ fn draw_feed(c: Cylinder, feed: f64, d: Drawn) -> Drawn
 // The event of the volume `wanted`: `held` comes with full layers, and is left with what each of them still holds.
 pub fn extract_hot_water(
     c: Cylinder,
-    feed: f64,
+    feed: Feed,
     temps: &[f64; MAX_LAYERS],
     wanted: f64,
     weighted: f64,
@@ -175,19 +176,4 @@ pub fn extract_hot_water(
         untouched: d.untouched,
         ..all
     }
-}
-
-// The tank's volume less Sum2 of what the layers still hold; `kept` is that of the first of them.
-pub fn volume_used(c: Cylinder, held: &[f64; MAX_LAYERS], kept: KeptSum) -> f64
-    requires { ⌜ (c .layers ≤ maxLayers) × (kept .layers ≤ c .layers) × IsSumOf (now held) kept ⌝ }
-    ensures { λ r. ⌜ r ≡ volumeUsed c (now (held .entry)) ⌝ }
-{
-    let n = c.layers;
-    let mut a = kept.sum;
-    let mut k = kept.layers;
-    while k < n {
-        a = numeric::sum2::add_term(a, held[k]);
-        k += 1;
-    }
-    c.volume - numeric::sum2::total_of(a)
 }

@@ -1,14 +1,3 @@
-// The draw events of a step: `extract_hot_water`, `calc_temps_after_extraction`, and the mixing of an event that warms the tank from below.
+// The feed and its cold water, and `extract_hot_water`: what an event takes from the layers.
 pub mod cold;
 pub mod draw;
-pub mod event;
-pub mod kept;
-pub mod refill;
-
-// What a step has drawn so far: the energy withdrawn (kWh), the volume used (litres), the temperatures weighted by volume, and the volume drawn.
-pub struct Totals {
-    pub energy: f64,
-    pub used: f64,
-    pub weighted: f64,
-    pub drawn: f64,
-}

@@ -18,7 +18,7 @@ fn answer(a: MixAnswer) {
 
 fn show(layers: &mut [f64], layer_volume: f64) {
     print::word(b"mix");
-    answer(mixing::mix::mix(layers, layer_volume));
+    answer(rearrange::mix::mix(layers, layer_volume));
     print::doubles(layers);
     print::line_end();
 }

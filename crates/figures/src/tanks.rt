@@ -1,5 +1,5 @@
 // What the figures are run on. Unless a figure says otherwise: density, specific heat and step length 1, standby loss 0, ambient 20, feed 12.
-use draw_off::event::MAX_EVENTS;
+use draw_events::event::MAX_EVENTS;
 use heating::SetPoints;
 use storage_tank::Report;
 use tank_model::Heater;

@@ -12,7 +12,7 @@ use Rattle.numeric.specs.Whole.{layerOf}
 use Rattle.mixing.specs.Limits.{maxLayers}
 use Rattle.mixing.specs.Mix.{numberOf, roundsOf, mixAnswer, mixLayers}
 use Rattle.cylinder.specs.declared.Cylinder.{Cylinder}
-use Rattle.draw_off.specs.Lent.{maxEvents}
+use Rattle.draw_events.specs.Lent.{maxEvents}
 use Rattle.heating.specs.declared.SetPoints.{SetPoints}
 use Rattle.heating.specs.declared.SetPoints.the-variants.{Lower}
 use Rattle.working_order.specs.Order.{maxHeaters}

@@ -3,7 +3,7 @@
 use lib.Ieee as I
 use Rattle.numeric.specs.Compare as Compare
 use Rattle.numeric.specs.Close as Close
-use Rattle.numeric.specs.Turns as Turns
+use Rattle.numeric.specs.Iterate as Iterate
 use Rattle.numeric.specs.Holds as Holds
 use Rattle.numeric.specs.Tabulate as Tabulate
 use Rattle.numeric.specs.Sum2 as Sum2
@@ -14,37 +14,43 @@ use Rattle.mixing.specs.Mix as Mix
 use Rattle.cylinder.specs.Layers as Layers
 use Rattle.draw_off.specs.Cold as Cold
 use Rattle.draw_off.specs.Draw as Draw
-use Rattle.draw_off.specs.Refill as Refill
-use Rattle.draw_off.specs.Event as Event
-use Rattle.heating.specs.Switch as Switch
+use Rattle.refill.specs.Refill as Refill
+use Rattle.draw_events.specs.Event as Event
+use Rattle.heating.specs.SetPoints as SetPoints
 use Rattle.heating.specs.Heat as Heat
 use Rattle.heating.specs.Losses as Losses
-use Rattle.heating.specs.Supply as Supply
-use Rattle.heating.specs.Turn as Turn
+use Rattle.heating.specs.FinalTemps as FinalTemps
+use Rattle.immersion_heater.specs.Switch as Switch
+use Rattle.immersion_heater.specs.Offer as Offer
+use Rattle.immersion_heater.specs.Supply as Supply
+use Rattle.immersion_heater.specs.Turn as Turn
 use Rattle.working_order.specs.Order as Sorting
 use Rattle.tank_model.specs.Fixed as Fixed
 use Rattle.tank_model.specs.Order as Order
+use Rattle.tank_model.specs.FirstRefusal as FirstRefusal
 use Rattle.tank_model.specs.Checks as Checks
+use Rattle.tank_model.specs.Run as Run
 use Rattle.tank_model.specs.Work as Work
 use Rattle.storage_tank.specs.Calls as Calls
 
 unfoldable pub opened : Unit {0}
 unfolding I.round I.ofInt I.ofBits I.add I.sub I.mul I.div I.neg I.lt I.le I.eq Compare.minOf2 Compare.maxOf2 Close.magnitude Close.infinite Close.within
     Close.close Close.narrowClose Close.wideClose
-    Turns.turns Holds.holds Tabulate.tabulate Sum2.accumulate Sum2.accumulateAll Sum2.sum2 Whole.wholeBelow Whole.layerOf Layers.layerVolume
+    Iterate.iterate Holds.holds Tabulate.tabulate Sum2.accumulate Sum2.accumulateAll Sum2.sum2 Whole.wholeBelow Whole.layerOf Layers.layerVolume
     Layers.layerVolumes Layers.noVolume Layers.allFinite
     Round.joins Round.member Round.groupTemp Round.pair Round.oneRound Rearrange.isSorted Rearrange.rounds Rearrange.rearrange Mix.mixRefusal
     Cold.cold Draw.givesAll Draw.share Draw.restAfter Draw.drawShare Draw.drawLayer Draw.drawLayers Draw.drawFeed Draw.extract Draw.volumeUsed
     Refill.takeShare Refill.takeFrom Refill.takeBelow Refill.fromFeed Refill.entersWarmer Refill.fillingOf Refill.refillLayer Refill.refillLayers
     Refill.refill
-    Event.eventMixing Event.eventOf Event.tempsAfterEvent Event.totalsAfterEvent Event.eventFinite Event.eventNumber Event.drawAll
-    Switch.hasUpper Switch.upperOf Switch.atOrUnderLower Switch.upperMissingOrReached Switch.switchOn Switch.switchOff Heat.offer Heat.heated
+    Event.eventMixing Event.eventOf Event.tempsAfterEvent Event.totalsAfterEvent Event.eventFinite Event.eventNumber
+    SetPoints.hasUpper SetPoints.upperOf Switch.atOrUnderLower Switch.upperMissingOrReached Switch.switchOn Switch.switchOff Heat.offersTo Heat.heated
     Losses.clearlyAbove Losses.overUpper Losses.standbyCoefficient Losses.warmed Losses.countedTemp Losses.standingLoss Losses.loss Losses.lossAt Losses.losses
     Losses.limitedTemp Losses.tempsAfter Losses.chargedAfter Losses.surplusTerm Losses.surplus Losses.adjusted
-    Supply.demand Supply.supply Turn.input Turn.heatAndMix Turn.adjustedInput Turn.afterMixing Turn.turn Turn.turnFinite Turn.turnNumber
-    Fixed.placedHeaters Sorting.insert Sorting.insertionSort Sorting.risingOrder Order.workingOrder Checks.firstRefusal Checks.fairPoints
+    FinalTemps.heatAndMix FinalTemps.adjustedInput FinalTemps.afterMixing FinalTemps.calcFinalTemps Offer.offer
+    Supply.demand Supply.supply Turn.afterHeat Turn.turn Turn.turnFinite Turn.turnNumber
+    Fixed.placedHeaters Sorting.insert Sorting.insertionSort Sorting.risingOrder Order.workingOrder FirstRefusal.firstRefusal Checks.pointsCheck
     Checks.makeRefusal Checks.stepRefusal
-    Work.resume Work.andThen Work.endBy Work.events Work.averageOf Work.withAverage Work.turnOf Work.afterTurn
-    Work.heaterTurn Work.turns Work.opening Work.recoverable Work.closed Work.begin Work.work
+    Run.endBy Run.first Run.run
+    Work.workEvent Work.events Work.averageOf Work.turnOf Work.workTurn Work.turns Work.recoverable Work.close Work.thenTurns Work.begin Work.work
     Calls.fittedHeaters Calls.madeOf Calls.made Calls.answer Calls.stepped Calls.answered Calls.answers
 opened = tt

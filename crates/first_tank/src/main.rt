@@ -4,7 +4,7 @@
 // example of docs/JOB_FORMAT.md. day/tests/test_documents.py works every line out again by compare/model.py.
 mod print;
 
-use draw_off::event::MAX_EVENTS;
+use draw_events::event::MAX_EVENTS;
 use heating::SetPoints;
 use job_reader::reader::read_at;
 use libc::STDIN_FILENO;
@@ -85,7 +85,7 @@ fn step(tank: StorageTank, report: Report) {
 
 fn mix() {
     let mut layers = [50.0, 40.0];
-    let answer = mixing::mix::mix(&mut layers[..], 16.0); // MixAnswer::Mixed(1): one round, and layers 45, 45
+    let answer = rearrange::mix::mix(&mut layers[..], 16.0); // MixAnswer::Mixed(1): one round, and layers 45, 45
     print::mixed(answer);
     print::doubles(&layers);
 }

@@ -1,8 +1,8 @@
 // What the calls answer, in words and numbers, a line for each call and one for its layers.
-use draw_off::event::MAX_EVENTS;
+use draw_events::event::MAX_EVENTS;
 use heating::SetPoints;
-use job_reader::Reading;
-use job_reader::Record;
+use job_records::Reading;
+use job_records::Record;
 use libc::STDOUT_FILENO;
 use mixing::MixAnswer;
 use mixing::limits::MAX_LAYERS;

@@ -1,8 +1,5 @@
--- The definitions of `heating`: the two switches, heat, losses and limit, supply, and one turn (01, Switch-on to Turn).
-pub mod Switch
+-- The definitions of `heating`: a heater's upper set point, heat, losses and limit, and `calc_final_temps` (01, Heat; Losses and limit).
+pub mod SetPoints
 pub mod Heat
 pub mod Losses
-pub mod Supply
-pub mod Turn
-pub mod SwitchLaws
-pub mod SupplyLaws
+pub mod FinalTemps

@@ -1,6 +1,7 @@
 -- States `calc_temps_after_thermal_losses` (01, Losses and limit): first one layer, by what stands at it alone; then all layers.
--- `before` are the layers on which the heater's turn began, `mixed` those that its mixing left, `charged` what earlier heaters charged each this step.
+-- `before` are the layers before the heat, `mixed` those that the mixing left, `charged` what earlier heaters charged each this step.
 use Prim.Native.Nat.{ℕ, _-_}
+use mathlib.Core.Path.{_≡_}
 use mathlib.Core.Bool.{Bool, cond, not, _&&_}
 use mathlib.Core.List.{List}
 use lib.ListN.{getD}
@@ -8,7 +9,7 @@ use lib.Ieee.{Float, nan, lt}
 use Rattle.numeric.specs.Double.{_⊕_, _⊖_, _⊛_, _⊘_, zero-f, whole}
 use Rattle.numeric.specs.Compare.{minOf2, maxOf2}
 use Rattle.numeric.specs.Close.{wideClose}
-use Rattle.numeric.specs.Turns.{turns}
+use Rattle.numeric.specs.Iterate.{iterate}
 use Rattle.numeric.specs.Tabulate.{tabulate}
 use Rattle.numeric.specs.Places.{updateFirst}
 use Rattle.numeric.specs.Sum2.{sum2}
@@ -16,7 +17,8 @@ use Rattle.cylinder.specs.declared.Cylinder.{Cylinder}
 use Rattle.cylinder.specs.Layers.{heatCapacity}
 use Rattle.heating.specs.declared.SetPoints.{SetPoints}
 use Rattle.heating.specs.declared.losses.LayerAfter.{LayerAfter}
-use Rattle.heating.specs.Switch.{hasUpper, upperOf}
+use Rattle.heating.specs.declared.losses.LossesAnswer.{LossesAnswer}
+use Rattle.heating.specs.SetPoints.{hasUpper, upperOf}
 
 -- t is above u and not wide-close to it
 unfoldable pub clearlyAbove : Float → Float → Bool
@@ -30,8 +32,8 @@ overUpper p t = hasUpper p && clearlyAbove t (upperOf p)
 unfoldable pub standbyCoefficient : Cylinder → Float
 standbyCoefficient c = whole 1000 ⊛ c .standby ⊘ (whole 24 ⊛ whole 45)
 
--- ---- one layer: v is its volume, t its temperature after the mixing, `warm` whether it is warmed, `earlier` what earlier heaters charged it, `lost` its loss,
--- `capacity` its density × specific heat × layer volume
+-- ---- one layer: v is its volume, t its temperature after the mixing, `warm` whether it is warmed, `earlier` what earlier heaters charged it,
+-- `lost` its loss, `capacity` its density × specific heat × layer volume
 
 -- a warmed layer is counted at no more than the upper set point
 unfoldable pub countedTemp : SetPoints → Bool → Float → Float
@@ -81,13 +83,26 @@ module _ (c : Cylinder) (vol : List Float) (p : SetPoints) (before mixed charged
   abbrev pub surplusAt : ℕ → Float
   surplusAt k = surplusTerm p (getD mixed k nan) (lossAt k) (heatCapacity c vol k)
 
-  -- added plainly from the heater's layer up, if that layer is over the upper set point; else 0
+  -- added plainly from the heater's layer up
+  abbrev pub surplusFrom : ℕ → Float
+  surplusFrom layer = iterate (λ (k : ℕ) (s : Float). s ⊕ surplusAt k) (c .layers - layer) layer zero-f
+
+  -- if that layer, warmed or not, is over the upper set point; else 0
   unfoldable pub surplus : ℕ → Float
-  surplus layer =
-      cond (overUpper p (getD mixed layer nan))
-      (turns (λ (k : ℕ) (s : Float). s ⊕ surplusAt k) (c .layers - layer) layer zero-f)
-      zero-f
+  surplus layer = cond (overUpper p (getD mixed layer nan)) (surplusFrom layer) zero-f
+
+  -- the layers have lost their heat: r are the heater's losses, `after` and `charges` what the layers are left at and charged with
+  pub record HeatLost (r : Float) (after charges : List Float) : Type 0 where
+    pub loses : r ≡ losses
+    pub leaves : after ≡ tempsAfter
+    pub charged-with : charges ≡ chargedAfter
 
 -- adjusted: `max_of_2` of 0 and `min_of_2` of input - surplus and input, or 0 if input is not above zero
 unfoldable pub adjusted : Float → Float → Float
 adjusted input over = cond (lt zero-f input) (maxOf2 zero-f (minOf2 (input ⊖ over) input)) zero-f
+
+-- losses and limit are worked for a heater of this layer and this input: its adjusted input, its losses, and what the lent arrays are left at
+pub record LossesWorked (c : Cylinder) (vol : List Float) (p : SetPoints) (before mixed charged : List Float) (layer : ℕ) (input : Float)
+    (r : LossesAnswer) (after charges : List Float) : Type 0 where
+  pub adjusts : r .adjusted ≡ adjusted input (surplus c vol p before mixed charged layer)
+  pub lost : HeatLost c vol p before mixed charged (r .losses) after charges

@@ -1,9 +1,8 @@
-// A heater's turn: switch-on, heat, mixing, losses and limit, supply, switch-off.
+// What the layers come to that are offered heat: `calc_final_temps` heats, mixes, loses and limits, whatever is offered. A heater's set points.
+pub mod final_temps;
 pub mod heat;
 pub mod losses;
-pub mod supply;
-pub mod switch;
-pub mod turn;
+pub mod set_points;
 
 // A heater's set points: neither, the lower only, the upper only, or both, the lower one first.
 pub enum SetPoints {

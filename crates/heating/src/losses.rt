@@ -1,13 +1,11 @@
-// `calc_temps_after_thermal_losses`. `before` are the layers on which the heater's turn began, `mixed` those that its mixing left, `charged` what
-// earlier heaters charged each layer this step.
+// `calc_temps_after_thermal_losses`. `before` are the layers before the heat, `mixed` those that the mixing left, `charged` what earlier heaters
+// charged each layer this step.
 ghost use mathlib.Core.Path.{_≡_};
-ghost use Prim.Native.Nat.{ℕ, _-_, _≤_, _<_};
-ghost use lib.Ieee.{Float};
-ghost use Rattle.numeric.specs.Turns.{turns};
-ghost use Rattle.numeric.specs.Double.{_⊕_, _⊛_, zero-f};
+ghost use Prim.Native.Nat.{_≤_, _<_};
+ghost use Rattle.numeric.specs.Double.{_⊛_};
 ghost use Rattle.mixing.specs.Limits.{maxLayers};
 ghost use Rattle.heating.specs.Losses.{clearlyAbove, overUpper, standbyCoefficient, countedTemp, standingLoss, loss};
-ghost use Rattle.heating.specs.Losses.{limitedTemp, surplusTerm, layerAfter, losses, tempsAfter, chargedAfter, surplusAt, surplus, adjusted};
+ghost use Rattle.heating.specs.Losses.{limitedTemp, surplusTerm, layerAfter, surplusFrom, surplus, adjusted, HeatLost, LossesWorked};
 use crate::SetPoints;
 use cylinder::Cylinder;
 use mixing::limits::MAX_LAYERS;
@@ -25,8 +23,8 @@ fn is_clearly_above(t: f64, u: f64) -> bool
 fn is_over_upper(p: SetPoints, t: f64) -> bool
     ensures { λ r. ⌜ r ≡ overUpper p t ⌝ }
 {
-    if crate::switch::has_upper(p) {
-        return is_clearly_above(t, crate::switch::upper_of(p));
+    if crate::set_points::has_upper(p) {
+        return is_clearly_above(t, crate::set_points::upper_of(p));
     }
     false
 }
@@ -42,9 +40,9 @@ fn stand_by_losses_coefficient(c: Cylinder) -> f64
 fn counted_temp(p: SetPoints, warmed: bool, t: f64) -> f64
     ensures { λ r. ⌜ r ≡ countedTemp p warmed t ⌝ }
 {
-    if crate::switch::has_upper(p) {
+    if crate::set_points::has_upper(p) {
         if warmed {
-            return numeric::compare::min_of_2(t, crate::switch::upper_of(p));
+            return numeric::compare::min_of_2(t, crate::set_points::upper_of(p));
         }
         return t;
     }
@@ -72,7 +70,7 @@ fn limited_temp(p: SetPoints, warmed: bool, t: f64, lost: f64, capacity: f64) ->
 {
     if warmed {
         if is_over_upper(p, t) {
-            return crate::switch::upper_of(p);
+            return crate::set_points::upper_of(p);
         }
         return t - lost / capacity;
     }
@@ -93,7 +91,7 @@ fn after_loss(c: Cylinder, v: f64, p: SetPoints, warmed: bool, t: f64, earlier: 
     LayerAfter { lost, temp }
 }
 
-// The same of a layer that was at `before` when the turn began. Whether it is warmed is asked once, and most layers are not.
+// The same of a layer that was at `before`. Whether it is warmed is asked once, and most layers are not.
 fn layer_after(c: Cylinder, v: f64, p: SetPoints, before: f64, t: f64, earlier: f64) -> LayerAfter
     ensures { λ r. ⌜ r ≡ layerAfter c v p (clearlyAbove t before) t earlier ⌝ }
 {
@@ -103,13 +101,13 @@ fn layer_after(c: Cylinder, v: f64, p: SetPoints, before: f64, t: f64, earlier: 
     after_loss(c, v, p, false, t, earlier)
 }
 
-// Of a layer that was at `before` when the turn began: its heat less its loss less its heat at the set point.
+// Of a layer that was at `before`: its heat less its loss less its heat at the set point.
 fn layer_surplus(c: Cylinder, v: f64, p: SetPoints, before: f64, t: f64, earlier: f64) -> f64
     ensures { λ r. ⌜ r ≡ surplusTerm p t (loss c v p (clearlyAbove t before) t earlier) (c .rho ⊛ c .cp ⊛ v) ⌝ }
 {
     let warmed = is_clearly_above(t, before);
     let lost = thermal_loss(c, v, p, warmed, t, earlier);
-    c.rho * c.cp * v * t - lost - c.rho * c.cp * v * crate::switch::upper_of(p)
+    c.rho * c.cp * v * t - lost - c.rho * c.cp * v * crate::set_points::upper_of(p)
 }
 
 // Added plainly from the heater's layer up.
@@ -123,7 +121,7 @@ fn sum_surplus(
     layer: usize,
 ) -> f64
     requires { ⌜ (layer < c .layers) × (c .layers ≤ maxLayers) ⌝ }
-    ensures { λ r. ⌜ r ≡ turns (λ (k : ℕ) (s : Float). s ⊕ surplusAt c (now (vol .entry)) p (now (before .entry)) (now (mixed .entry)) (now (charged .entry)) k) (c .layers - layer) layer zero-f ⌝ }
+    ensures { λ r. ⌜ r ≡ surplusFrom c (now (vol .entry)) p (now (before .entry)) (now (mixed .entry)) (now (charged .entry)) layer ⌝ }
 {
     let n = c.layers;
     let mut s = 0.0;
@@ -175,7 +173,8 @@ fn lose_heat(
     charged: &mut [f64; MAX_LAYERS],
 ) -> f64
     requires { ⌜ c .layers ≤ maxLayers ⌝ }
-    ensures { λ r. ⌜ (r ≡ losses c (now (vol .entry)) p (now (before .entry)) (now (temps .entry)) (now (charged .entry))) × (now (temps .exit) ≡ tempsAfter c (now (vol .entry)) p (now (before .entry)) (now (temps .entry)) (now (charged .entry))) × (now (charged .exit) ≡ chargedAfter c (now (vol .entry)) p (now (before .entry)) (now (temps .entry)) (now (charged .entry))) ⌝ }
+    ensures { λ r. ⌜ HeatLost c (now (vol .entry)) p (now (before .entry)) (now (temps .entry)) (now (charged .entry))
+        r (now (temps .exit)) (now (charged .exit)) ⌝ }
 {
     let n = c.layers;
     let mut a = numeric::sum2::start();
@@ -208,7 +207,8 @@ pub fn calc_temps_after_thermal_losses(
     charged: &mut [f64; MAX_LAYERS],
 ) -> LossesAnswer
     requires { ⌜ (layer < c .layers) × (c .layers ≤ maxLayers) ⌝ }
-    ensures { λ r. ⌜ (r .adjusted ≡ adjusted input (surplus c (now (vol .entry)) p (now (before .entry)) (now (temps .entry)) (now (charged .entry)) layer)) × (r .losses ≡ losses c (now (vol .entry)) p (now (before .entry)) (now (temps .entry)) (now (charged .entry))) × (now (temps .exit) ≡ tempsAfter c (now (vol .entry)) p (now (before .entry)) (now (temps .entry)) (now (charged .entry))) × (now (charged .exit) ≡ chargedAfter c (now (vol .entry)) p (now (before .entry)) (now (temps .entry)) (now (charged .entry))) ⌝ }
+    ensures { λ r. ⌜ LossesWorked c (now (vol .entry)) p (now (before .entry)) (now (temps .entry)) (now (charged .entry)) layer input
+        r (now (temps .exit)) (now (charged .exit)) ⌝ }
 {
     let over = energy_surplus(c, vol, p, before, temps, charged, layer);
     let adjusted = adjusted_input(input, over);

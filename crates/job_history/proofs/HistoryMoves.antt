@@ -4,29 +4,29 @@ use mathlib.Core.Bool.{true}
 use mathlib.Core.List.{List}
 use mathlib.Core.Path.{_≡_, refl, sym, subst}
 use lib.ListN.{length}
-use Rattle.job_reader.specs.declared.Record.{Record}
-use Rattle.job_reader.specs.declared.Record.the-variants.{Tank, Heater as HeaterCase, Step as StepCase, Refused}
-use Rattle.job_reader.specs.declared.Reading.{Reading}
+use Rattle.job_records.specs.declared.Record.{Record}
+use Rattle.job_records.specs.declared.Record.the-variants.{Tank, Heater as HeaterCase, Step as StepCase, Refused}
+use Rattle.job_records.specs.declared.Reading.{Reading}
 use Rattle.job_run.specs.declared.Job.{Job}
-use Rattle.job_run.specs.Job.{readingOf, stepTurn, turnOf, turn}
-use Rattle.job_run.proofs.Moves.{Moves, turn-moves}
+use Rattle.job_run.specs.Job.{readingOf, stepOutcome, outcomeOf, outcome}
+use Rattle.job_run.proofs.Moves.{Moves, record-moves}
 use Rattle.job_run.proofs.Ends.{run-ends}
-use Rattle.job_history.specs.History.{historyStep, historyOf, historyTurn, historyRun}
+use Rattle.job_history.specs.History.{historyStep, historyOf, historyOutcome, historyRun}
 
-job-of : (bytes : List ℕ) (j : Job) (r : Reading) (x : Record) → historyOf bytes j r x .job ≡ turnOf bytes j r x .job
-unfolding historyOf turnOf historyStep stepTurn
+job-of : (bytes : List ℕ) (j : Job) (r : Reading) (x : Record) → historyOf bytes j r x .job ≡ outcomeOf bytes j r x .job
+unfolding historyOf outcomeOf historyStep stepOutcome
 job-of bytes j r (Tank t) = refl
 job-of bytes j r (HeaterCase h) = refl
 job-of bytes j r (StepCase p) = refl
 job-of bytes j r Refused = refl
 
 -- the job after a record is the same
-pub history-job : (bytes : List ℕ) (j : Job) → historyTurn bytes j .job ≡ turn bytes j .job
-unfolding historyTurn turn
+pub history-job : (bytes : List ℕ) (j : Job) → historyOutcome bytes j .job ≡ outcome bytes j .job
+unfolding historyOutcome outcome
 history-job bytes j = job-of bytes j (readingOf bytes j) (readingOf bytes j .content)
 
-pub history-moves : (bytes : List ℕ) (j : Job) → Moves j (length bytes) (historyTurn bytes j)
-history-moves bytes j = subst (λ (k : Job). Moves j (length bytes) (record { job = k; text = historyTurn bytes j .text })) (sym (history-job bytes j)) (turn-moves j bytes)
+pub history-moves : (bytes : List ℕ) (j : Job) → Moves j (length bytes) (historyOutcome bytes j)
+history-moves bytes j = subst (λ (k : Job). Moves j (length bytes) (record { job = k; text = historyOutcome bytes j .text })) (sym (history-job bytes j)) (record-moves j bytes)
 
 pub history-ends : (bytes : List ℕ) → historyRun bytes .job .ended ≡ true
-history-ends bytes = run-ends (historyTurn bytes) (length bytes) (λ j. history-moves bytes j)
+history-ends bytes = run-ends (historyOutcome bytes) (length bytes) (λ j. history-moves bytes j)

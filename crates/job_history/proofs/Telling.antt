@@ -10,9 +10,9 @@ use borrow.Author.Tests.{eq-eqb, ne-eqb}
 use lib.ListN.{length, getD, set, drop, length-drop, length-replicate}
 use lib.Seq.{getD-drop, drop-drop, slice, slice-cons}
 use lib.Ieee.{Float}
-use Rattle.numeric.specs.Copy.{copied, copied-turn}
+use Rattle.numeric.specs.Copy.{copied, copied-next}
 use Rattle.cylinder.specs.declared.Cylinder.{Cylinder}
-use Rattle.heating.specs.Turn.{turnNumber}
+use Rattle.immersion_heater.specs.Turn.{turnNumber}
 use Rattle.working_order.specs.Order.{maxHeaters}
 use Rattle.tank_model.specs.declared.Heater.{Heater}
 use Rattle.tank_model.specs.declared.Setting.{Setting}
@@ -52,7 +52,7 @@ telling-turn all rest x r k t l =
     let many : length noFacts ≡ maxHeaters = length-replicate maxHeaters noFact in
     record {
       counts = refl;
-      holds = rw (t .holds, ← d .1) (copied-turn noFact k all noFacts (d .0) (omega arith));
+      holds = rw (t .holds, ← d .1) (copied-next noFact k all noFacts (d .0) (omega arith));
       left = d .2;
       room = let h = d .0 in omega arith;
     }
@@ -74,36 +74,36 @@ telling-end all r k t l =
 
 -- ---- one turn of the loop
 
-module _ (c : Cylinder) (fitted : List Heater) (settings : List Setting) (h : ℕ) (hs : List ℕ) (temps charged : List Float) (flags : List Bool) (r : ToldTurn) (temps' charged' : List Float)
-    (w : Told c h (pointsAt c fitted settings h) (thermostatAt c fitted settings h) temps (turnAt c fitted settings h temps charged flags) r temps' charged') where
-  number-is : turnNumber c (turnAt c fitted settings h temps charged flags) ≡ r .number
+module _ (c : Cylinder) (vol : List Float) (fitted : List Heater) (settings : List Setting) (h : ℕ) (hs : List ℕ) (temps charged : List Float) (flags : List Bool) (r : ToldTurn) (temps' charged' : List Float)
+    (w : Told c h (pointsAt c vol fitted settings h) (thermostatAt c vol fitted settings h) temps (turnAt c vol fitted settings h temps charged flags) r temps' charged') where
+  number-is : turnNumber c (turnAt c vol fitted settings h temps charged flags) ≡ r .number
   number-is = sym (ap (λ (x : ToldTurn). x .number) (w .answers))
 
-  pub facts-on : r .number ≡ 0 → turnFacts c fitted settings (h ∷ hs) temps charged flags ≡ r .fact ∷ turnFacts c fitted settings hs temps' charged' (set flags h (r .fact .flag))
+  pub facts-on : r .number ≡ 0 → turnFacts c vol fitted settings (h ∷ hs) temps charged flags ≡ r .fact ∷ turnFacts c vol fitted settings hs temps' charged' (set flags h (r .fact .flag))
   unfolding turnFacts
-  facts-on z = rw (eq-eqb (turnNumber c (turnAt c fitted settings h temps charged flags)) 0 (number-is ∙ z), w .answers, w .leaves, w .charges)
+  facts-on z = rw (eq-eqb (turnNumber c (turnAt c vol fitted settings h temps charged flags)) 0 (number-is ∙ z), w .answers, w .leaves, w .charges)
 
-  pub facts-off : (r .number ≡ 0 → ⊥) → turnFacts c fitted settings (h ∷ hs) temps charged flags ≡ r .fact ∷ []
+  pub facts-off : (r .number ≡ 0 → ⊥) → turnFacts c vol fitted settings (h ∷ hs) temps charged flags ≡ r .fact ∷ []
   unfolding turnFacts
-  facts-off z = rw (ne-eqb (turnNumber c (turnAt c fitted settings h temps charged flags)) 0 (λ e. z (sym number-is ∙ e)), w .answers)
+  facts-off z = rw (ne-eqb (turnNumber c (turnAt c vol fitted settings h temps charged flags)) 0 (λ e. z (sym number-is ∙ e)), w .answers)
 
 -- ---- the loop over the first n places of `order`, which has come to k
 
-module _ (c : Cylinder) (fitted : List Heater) (settings : List Setting) (all : List TurnFact) (n : ℕ) (order : List ℕ) (k : ℕ) (temps charged : List Float) (flags : List Bool) (q : Turns)
-    (before : Telling all (turnFacts c fitted settings (slice k n order) temps charged flags) q k) where
+module _ (c : Cylinder) (vol : List Float) (fitted : List Heater) (settings : List Setting) (all : List TurnFact) (n : ℕ) (order : List ℕ) (k : ℕ) (temps charged : List Float) (flags : List Bool) (q : Turns)
+    (before : Telling all (turnFacts c vol fitted settings (slice k n order) temps charged flags) q k) where
   pub loop-done : n ≤ k → k ≤ maxHeaters → (q ≡ turnsOf all) × (q .count ≤ maxHeaters)
   unfolding turnFacts
   loop-done l m = telling-end all q k (rw (slice-past k n order l) at before) m
 
   module _ (r : ToldTurn) (temps' charged' : List Float) (l : k < n) (m : n ≤ maxHeaters) (long : n ≤ length order)
-      (w : Told c (getD order k 0) (pointsAt c fitted settings (getD order k 0)) (thermostatAt c fitted settings (getD order k 0)) temps (turnAt c fitted settings (getD order k 0) temps charged flags) r temps' charged') where
-    one-more : Telling all (turnFacts c fitted settings (getD order k 0 ∷ slice (suc k) n order) temps charged flags) q k
+      (w : Told c (getD order k 0) (pointsAt c vol fitted settings (getD order k 0)) (thermostatAt c vol fitted settings (getD order k 0)) temps (turnAt c vol fitted settings (getD order k 0) temps charged flags) r temps' charged') where
+    one-more : Telling all (turnFacts c vol fitted settings (getD order k 0 ∷ slice (suc k) n order) temps charged flags) q k
     one-more = rw (slice-cons k n order 0 l long) at before
 
-    pub loop-on : r .number ≡ 0 → Telling all (turnFacts c fitted settings (slice (k + 1) n order) temps' charged' (set flags (getD order k 0) (r .fact .flag))) (record { count = k + 1; facts = set (q .facts) k (r .fact) }) (k + 1)
+    pub loop-on : r .number ≡ 0 → Telling all (turnFacts c vol fitted settings (slice (k + 1) n order) temps' charged' (set flags (getD order k 0) (r .fact .flag))) (record { count = k + 1; facts = set (q .facts) k (r .fact) }) (k + 1)
     loop-on z =
         let next : slice (k + 1) n order ≡ slice (suc k) n order = ap (λ (i : ℕ). slice i n order) (add-one k) in
-        rw next (telling-turn all (turnFacts c fitted settings (slice (suc k) n order) temps' charged' (set flags (getD order k 0) (r .fact .flag))) (r .fact) q k (rw (facts-on c fitted settings (getD order k 0) (slice (suc k) n order) temps charged flags r temps' charged' w z) at one-more) (omega arith))
+        rw next (telling-turn all (turnFacts c vol fitted settings (slice (suc k) n order) temps' charged' (set flags (getD order k 0) (r .fact .flag))) (r .fact) q k (rw (facts-on c vol fitted settings (getD order k 0) (slice (suc k) n order) temps charged flags r temps' charged' w z) at one-more) (omega arith))
 
     pub loop-off : (r .number ≡ 0 → ⊥) → (record { count = k + 1; facts = set (q .facts) k (r .fact) } ≡ turnsOf all) × (k + 1 ≤ maxHeaters)
-    loop-off z = telling-end all (record { count = k + 1; facts = set (q .facts) k (r .fact) }) (k + 1) (telling-turn all [] (r .fact) q k (rw (facts-off c fitted settings (getD order k 0) (slice (suc k) n order) temps charged flags r temps' charged' w z) at one-more) (omega arith)) (omega arith)
+    loop-off z = telling-end all (record { count = k + 1; facts = set (q .facts) k (r .fact) }) (k + 1) (telling-turn all [] (r .fact) q k (rw (facts-off c vol fitted settings (getD order k 0) (slice (suc k) n order) temps charged flags r temps' charged' w z) at one-more) (omega arith)) (omega arith)

@@ -7,9 +7,8 @@ use lib.Dec.{eqb}
 use lib.ListN.{getD, set}
 use lib.Ieee.{Float, nan}
 use Rattle.cylinder.specs.declared.Cylinder.{Cylinder}
-use Rattle.cylinder.specs.Layers.{layerVolumes}
 use Rattle.heating.specs.declared.SetPoints.{SetPoints}
-use Rattle.heating.specs.Turn.{Turned, turn, turnNumber}
+use Rattle.immersion_heater.specs.Turn.{Turned, turn, turnNumber}
 use Rattle.tank_model.specs.declared.Heater.{Heater}
 use Rattle.tank_model.specs.declared.Setting.{Setting}
 use Rattle.tank_model.specs.Fixed.{noHeater}
@@ -32,12 +31,13 @@ factBy h p thermostat before u = record {
 }
 
 -- r tells the turn u, which left these layers and these charged losses
-pub record Told (c : Cylinder) (h : ℕ) (p : SetPoints) (thermostat : ℕ) (before : List Float) (u : Turned) (r : ToldTurn) (temps charged : List Float) : Type 0 where
+pub record Told (c : Cylinder) (h : ℕ) (p : SetPoints) (thermostat : ℕ) (before : List Float) (u : Turned) (r : ToldTurn)
+    (temps charged : List Float) : Type 0 where
   pub answers : r ≡ record { number = turnNumber c u; fact = factBy h p thermostat before u }
   pub leaves : temps ≡ u .temps
   pub charges : charged ≡ u .charged
 
-module _ (c : Cylinder) (fitted : List Heater) (settings : List Setting) where
+module _ (c : Cylinder) (vol : List Float) (fitted : List Heater) (settings : List Setting) where
   -- the heater given as h, and its turn
   abbrev pub thermostatAt : ℕ → ℕ
   thermostatAt h = immersion (c .layers) (getD fitted h noHeater) .thermostat
@@ -46,7 +46,7 @@ module _ (c : Cylinder) (fitted : List Heater) (settings : List Setting) where
   pointsAt h = getD settings h noSetting .points
 
   abbrev pub turnAt : ℕ → List Float → List Float → List Bool → Turned
-  turnAt h temps charged flags = turn c (layerVolumes c) (immersion (c .layers) (getD fitted h noHeater)) (pointsAt h) temps charged (getD flags h false)
+  turnAt h temps charged flags = turn c vol (immersion (c .layers) (getD fitted h noHeater)) (pointsAt h) temps charged (getD flags h false)
 
   -- the turns of the heaters hs, each from where the one before left
   unfoldable pub turnFacts : List ℕ → List Float → List Float → List Bool → List TurnFact

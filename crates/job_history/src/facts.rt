@@ -4,10 +4,9 @@ ghost use mathlib.Core.List.{[]};
 ghost use Prim.Native.Nat.{ℕ, _≤_, _<_};
 ghost use lib.ListN.{getD, length, take};
 ghost use Rattle.mixing.specs.Limits.{maxLayers};
-ghost use Rattle.cylinder.specs.Layers.{layerVolumes};
-ghost use Rattle.heating.specs.Turn.{turn};
+ghost use Rattle.immersion_heater.specs.Turn.{turn};
 ghost use Rattle.working_order.specs.Order.{maxHeaters};
-ghost use Rattle.tank_model.specs.Fixed.{placedHeaters};
+ghost use Rattle.tank_model.specs.Fixed.{placedHeaters, fixedBy};
 ghost use Rattle.tank_model.specs.Order.{workingOrder};
 ghost use Rattle.step_work.specs.Lent.{immersion};
 ghost use Rattle.job_history.specs.Facts.{stepTurns, noFact, turnsOf};
@@ -15,6 +14,7 @@ ghost use Rattle.job_history.specs.Lent.{Told, turnFacts};
 use crate::TurnFact;
 use crate::Turns;
 use cylinder::Cylinder;
+use draw_off::cold::Feed;
 use heating::SetPoints;
 use mixing::limits::MAX_LAYERS;
 use storage_tank::StorageTank;
@@ -65,12 +65,14 @@ fn tell_turn(
     charged: &mut [f64; MAX_LAYERS],
 ) -> ToldTurn
     requires { ⌜ (1 ≤ c .layers) × (c .layers ≤ maxLayers) ⌝ }
-    ensures { λ r. ⌜ Told c h p (immersion (c .layers) x .thermostat) (now (temps .entry)) (turn c (now (vol .entry)) (immersion (c .layers) x) p (now (temps .entry)) (now (charged .entry)) flag) r (now (temps .exit)) (now (charged .exit)) ⌝ }
+    ensures { λ r. ⌜ Told c h p (immersion (c .layers) x .thermostat) (now (temps .entry))
+        (turn c (now (vol .entry)) (immersion (c .layers) x) p (now (temps .entry)) (now (charged .entry)) flag)
+        r (now (temps .exit)) (now (charged .exit)) ⌝ }
 {
-    let i = step_work::turns::immersion_of(c.layers, x);
+    let i = tank_model::immersion_of(c.layers, x);
     let thermostat = i.thermostat;
     let start = temps[thermostat];
-    let u = heating::turn::turn(c, vol, i, p, flag, temps, charged);
+    let u = immersion_heater::turn::turn(c, vol, i, p, flag, temps, charged);
     let finish = temps[thermostat];
     ToldTurn {
         number: u.number,
@@ -99,8 +101,12 @@ fn tell_in_order(
     temps: &mut [f64; MAX_LAYERS],
     charged: &mut [f64; MAX_LAYERS],
 ) -> Turns
-    requires { ⌜ (1 ≤ c .layers) × (c .layers ≤ maxLayers) × (n ≤ maxHeaters) × (now vol ≡ layerVolumes c) × (length (now order) ≡ maxHeaters) × ((k : ℕ) → k < n → getD (now order) k 0 < n) ⌝ }
-    ensures { λ r. ⌜ (r ≡ turnsOf (turnFacts c fitted settings (take n (now (order .entry))) (now (temps .entry)) (now (charged .entry)) flags)) × (r .count ≤ maxHeaters) ⌝ }
+    requires { ⌜ (1 ≤ c .layers) × (c .layers ≤ maxLayers) × (n ≤ maxHeaters)
+        × (length (now order) ≡ maxHeaters)
+        × ((k : ℕ) → k < n → getD (now order) k 0 < n) ⌝ }
+    ensures { λ r. ⌜ (r ≡ turnsOf (turnFacts c (now (vol .entry)) fitted settings (take n (now (order .entry)))
+        (now (temps .entry)) (now (charged .entry)) flags))
+        × (r .count ≤ maxHeaters) ⌝ }
 {
     let mut r = no_turns();
     let mut on = flags;
@@ -134,11 +140,13 @@ fn tell_turns(
     temps: &mut [f64; MAX_LAYERS],
     charged: &mut [f64; MAX_LAYERS],
 ) -> Turns
-    requires { ⌜ (1 ≤ c .layers) × (c .layers ≤ maxLayers) × (n ≤ maxHeaters) × (now vol ≡ layerVolumes c) ⌝ }
-    ensures { λ r. ⌜ (r ≡ turnsOf (turnFacts c fitted settings (workingOrder (record { cylinder = c; heaters = placedHeaters n fitted })) (now (temps .entry)) (now (charged .entry)) flags)) × (r .count ≤ maxHeaters) ⌝ }
+    requires { ⌜ (1 ≤ c .layers) × (c .layers ≤ maxLayers) × (n ≤ maxHeaters) ⌝ }
+    ensures { λ r. ⌜ (r ≡ turnsOf (turnFacts c (now (vol .entry)) fitted settings (workingOrder (fixedBy c (placedHeaters n fitted)))
+        (now (temps .entry)) (now (charged .entry)) flags))
+        × (r .count ≤ maxHeaters) ⌝ }
 {
-    let positions = step_work::turns::positions_of(fitted);
-    let order = working_order::working_order(n, &positions);
+    let heaters = tank_arrays::arrays::heaters_of(fitted);
+    let order = working_order::working_order(n, &heaters);
     tell_in_order(c, vol, n, fitted, settings, &order, flags, temps, charged)
 }
 
@@ -153,7 +161,10 @@ pub fn step_turns(t: StorageTank, a: Step) -> Turns
     let vol = cylinder::layer_volumes(c);
     let mut temps = t.temps;
     let none = step_work::work::no_totals();
-    let d = draw_off::event::draw_events(c, &vol, a.feed, a.events, &a.volumes, &mut temps, none);
+    let water = Feed {
+        temperature: a.feed,
+    };
+    let d = draw_events::event::draw_events(c, &vol, water, a.events, &a.volumes, &mut temps, none);
     if d.number != 0 {
         return no_turns();
     }

@@ -4,6 +4,7 @@ ghost use Prim.Native.Nat.{_+_, _*_, _≤_};
 ghost use lib.ListN.{length};
 ghost use Rattle.working_order.specs.Order.{maxHeaters};
 ghost use Rattle.job_lines.specs.Put.{Put, written};
+ghost use Rattle.job_lines.specs.Lengths.{maxText};
 ghost use Rattle.job_history.specs.Lines.{missingText, pointsText, courseText, outcomeText, turnLine, turnLines, historyLines};
 use crate::TurnFact;
 use crate::Turns;
@@ -96,7 +97,9 @@ fn put_turn_lines(buf: &mut [u8], at: usize, count: usize, facts: [TurnFact; MAX
 
 pub fn history_lines(buf: &mut [u8], index: usize, number: u8, r: Turns) -> usize
     requires { ⌜ r .count ≤ maxHeaters ⌝ }
-    ensures { λ n. ⌜ (n ≡ length (historyLines index number r)) × (now (buf .exit) ≡ written (now (buf .entry)) (historyLines index number r)) × (n ≤ 1500) ⌝ }
+    ensures { λ n. ⌜ (n ≡ length (historyLines index number r))
+        × (now (buf .exit) ≡ written (now (buf .entry)) (historyLines index number r))
+        × (n ≤ maxText) ⌝ }
 {
     let a = job_lines::lines::put_head(buf, index, number);
     let b = put_byte(buf, a, b'\n');

@@ -21,9 +21,9 @@ sets-past b at [] j x h = refl
 sets-past b at (a ∷ t) j x h =
     rw (set-comm b j at x a (λ e. omega arith)) (sets-past (set b at a) (suc at) t j x (omega arith))
 
-pub digits-turn : (b : List ℕ) (at base k n : ℕ) → sets (set b (at + k) (digitOf (n % base))) at (digits base k (n / base)) ≡ sets b at (digits base (suc k) n)
+pub digits-next : (b : List ℕ) (at base k n : ℕ) → sets (set b (at + k) (digitOf (n % base))) at (digits base k (n / base)) ≡ sets b at (digits base (suc k) n)
 unfolding digits
-digits-turn b at base k n =
+digits-next b at base k n =
     let ds = digits base k (n / base) in
     let l : length ds ≡ k = digits-length base k (n / base) in
     sets-past b at ds (at + k) (digitOf (n % base)) (omega arith)

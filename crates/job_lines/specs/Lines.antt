@@ -11,7 +11,7 @@ use lib.Ieee.{Float, nan}
 use Rattle.mixing.specs.Limits.{maxLayers}
 use Rattle.working_order.specs.Order.{maxHeaters}
 use Rattle.tank_model.specs.declared.HeaterLine.{HeaterLine}
-use Rattle.tank_model.specs.Fixed.{placedHeaters}
+use Rattle.tank_model.specs.Fixed.{placedHeaters, fixedBy}
 use Rattle.tank_model.specs.Order.{workingOrder}
 use Rattle.storage_tank.specs.declared.Report.{Report}
 use Rattle.storage_tank.specs.declared.StorageTank.{StorageTank}
@@ -88,7 +88,7 @@ abbrev pub shownHeaters : StorageTank → ℕ
 shownHeaters t = atMost (t .heaters) maxHeaters
 
 abbrev pub shownOrder : StorageTank → List ℕ
-shownOrder t = workingOrder (record { cylinder = fixedIn t .cylinder; heaters = placedHeaters (shownHeaters t) (t .fitted) })
+shownOrder t = workingOrder (fixedBy (fixedIn t .cylinder) (placedHeaters (shownHeaters t) (t .fitted)))
 
 -- a step's lines, by its number
 unfoldable pub stepLines : ℕ → Stepped → List ℕ

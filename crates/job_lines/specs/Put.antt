@@ -6,10 +6,15 @@ use mathlib.Core.Path.{_≡_, refl, sym, ap, _∙_}
 use mathlib.Core.List.{List, [], _∷_, _++_}
 use lib.ListN.{length, take, drop, set, length-append}
 use lib.Seq.{sets, length-sets, take-nil, take-all, take-at}
+use Rattle.job_lines.specs.Lengths.{maxText}
 
 -- the text as far as it fits, from the first place on, and what the buffer held after it
 abbrev pub written : List ℕ → List ℕ → List ℕ
 written buffer text = take (length buffer) text ++ drop (length text) buffer
+
+-- r is the length of a record's whole text, which is never long, and the buffer holds the text as far as it fits
+abbrev pub PutWhole : List ℕ → List ℕ → List ℕ → ℕ → Type 0
+PutWhole text before after r = (r ≡ length text) × (after ≡ written before text) × (r ≤ maxText)
 
 -- the text stands in the buffer from a place on, and `next` is the place after it
 pub record Put (before : List ℕ) (at : ℕ) (text after : List ℕ) (next : ℕ) : Type 0 where

@@ -2,11 +2,13 @@
 ghost use mathlib.Core.Path.{_≡_};
 ghost use mathlib.Core.Bool.{cond};
 ghost use Prim.Native.Nat.{ℕ, _+_, _*_, _≤_, _<_};
-ghost use lib.ListN.{length, getD};
+ghost use lib.ListN.{getD};
 ghost use Rattle.mixing.specs.Limits.{maxLayers};
 ghost use Rattle.working_order.specs.Order.{maxHeaters};
-ghost use Rattle.job_lines.specs.Put.{Put, written};
-ghost use Rattle.job_lines.specs.Lines.{atMost, headText, totalsText, layersText, layersLine, heaterLine, heaterLines, refusalLine, refusedLines, acceptedLines, stepLines};
+ghost use Rattle.job_lines.specs.Put.{Put, PutWhole};
+ghost use Rattle.job_lines.specs.Lengths.{headBytes, totalsBytes, layersBytes, heaterBytes, beforeHeaters, maxText};
+ghost use Rattle.job_lines.specs.Lines.{atMost, headText, totalsText, layersText, layersLine, heaterLine, heaterLines};
+ghost use Rattle.job_lines.specs.Lines.{refusalLine, refusedLines, acceptedLines, stepLines};
 use crate::text::put_byte;
 use crate::text::put_double;
 use crate::text::put_number;
@@ -31,7 +33,7 @@ pub fn flag_number(flag: bool) -> usize
 
 // S, the step's index and its number, the line not ended.
 pub fn put_head(buf: &mut [u8], index: usize, number: u8) -> usize
-    ensures { λ r. ⌜ (Put (now (buf .entry)) 0 (headText index number) (now (buf .exit)) r) × (r ≤ 43) ⌝ }
+    ensures { λ r. ⌜ (Put (now (buf .entry)) 0 (headText index number) (now (buf .exit)) r) × (r ≤ headBytes) ⌝ }
 {
     let a = put_byte(buf, 0, b'S');
     let b = put_number(buf, a, index);
@@ -40,8 +42,8 @@ pub fn put_head(buf: &mut [u8], index: usize, number: u8) -> usize
 
 // The four totals, and the line's end.
 fn put_totals(buf: &mut [u8], at: usize, report: Report) -> usize
-    requires { ⌜ at ≤ 43 ⌝ }
-    ensures { λ r. ⌜ (Put (now (buf .entry)) at (totalsText report) (now (buf .exit)) r) × (r ≤ at + 69) ⌝ }
+    requires { ⌜ at ≤ headBytes ⌝ }
+    ensures { λ r. ⌜ (Put (now (buf .entry)) at (totalsText report) (now (buf .exit)) r) × (r ≤ at + totalsBytes) ⌝ }
 {
     let a = put_double(buf, at, report.energy);
     let b = put_double(buf, a, report.used);
@@ -52,7 +54,7 @@ fn put_totals(buf: &mut [u8], at: usize, report: Report) -> usize
 
 // The first n layers, each after a space.
 fn put_layers(buf: &mut [u8], at: usize, n: usize, temps: &[f64; MAX_LAYERS]) -> usize
-    requires { ⌜ (n ≤ maxLayers) × (at ≤ 200) ⌝ }
+    requires { ⌜ (n ≤ maxLayers) × (at ≤ headBytes + totalsBytes + 1) ⌝ }
     ensures { λ r. ⌜ (Put (now (buf .entry)) at (layersText n (now (temps .entry))) (now (buf .exit)) r) × (r ≤ at + 17 * n) ⌝ }
 {
     let mut a = at;
@@ -65,8 +67,8 @@ fn put_layers(buf: &mut [u8], at: usize, n: usize, temps: &[f64; MAX_LAYERS]) ->
 }
 
 fn put_layers_line(buf: &mut [u8], at: usize, n: usize, temps: &[f64; MAX_LAYERS]) -> usize
-    requires { ⌜ (n ≤ maxLayers) × (at ≤ 199) ⌝ }
-    ensures { λ r. ⌜ (Put (now (buf .entry)) at (layersLine n (now (temps .entry))) (now (buf .exit)) r) × (r ≤ at + 546) ⌝ }
+    requires { ⌜ (n ≤ maxLayers) × (at ≤ headBytes + totalsBytes) ⌝ }
+    ensures { λ r. ⌜ (Put (now (buf .entry)) at (layersLine n (now (temps .entry))) (now (buf .exit)) r) × (r ≤ at + layersBytes) ⌝ }
 {
     let a = put_byte(buf, at, b'L');
     let b = put_layers(buf, a, n, temps);
@@ -74,8 +76,8 @@ fn put_layers_line(buf: &mut [u8], at: usize, n: usize, temps: &[f64; MAX_LAYERS
 }
 
 fn put_heater_line(buf: &mut [u8], at: usize, line: HeaterLine) -> usize
-    requires { ⌜ at ≤ 3000 ⌝ }
-    ensures { λ r. ⌜ (Put (now (buf .entry)) at (heaterLine line) (now (buf .exit)) r) × (r ≤ at + 95) ⌝ }
+    requires { ⌜ at ≤ maxText ⌝ }
+    ensures { λ r. ⌜ (Put (now (buf .entry)) at (heaterLine line) (now (buf .exit)) r) × (r ≤ at + heaterBytes) ⌝ }
 {
     let a = put_byte(buf, at, b'H');
     let b = put_number(buf, a, flag_number(line.flag));
@@ -94,8 +96,8 @@ fn put_heater_lines(
     order: [usize; MAX_HEATERS],
     lines: [HeaterLine; MAX_HEATERS],
 ) -> usize
-    requires { ⌜ (n ≤ maxHeaters) × (at ≤ 1000) × ((k : ℕ) → k < n → getD order k 0 < maxHeaters) ⌝ }
-    ensures { λ r. ⌜ (Put (now (buf .entry)) at (heaterLines n order lines) (now (buf .exit)) r) × (r ≤ at + 95 * n) ⌝ }
+    requires { ⌜ (n ≤ maxHeaters) × (at ≤ beforeHeaters) × ((k : ℕ) → k < n → getD order k 0 < maxHeaters) ⌝ }
+    ensures { λ r. ⌜ (Put (now (buf .entry)) at (heaterLines n order lines) (now (buf .exit)) r) × (r ≤ at + heaterBytes * n) ⌝ }
 {
     let mut a = at;
     let mut k = 0;
@@ -110,7 +112,7 @@ fn put_heater_lines(
 
 // E, a number and the record's start.
 pub fn refusal_line(buf: &mut [u8], number: u8, offset: usize) -> usize
-    ensures { λ r. ⌜ (r ≡ length (refusalLine number offset)) × (now (buf .exit) ≡ written (now (buf .entry)) (refusalLine number offset)) × (r ≤ 1500) ⌝ }
+    ensures { λ r. ⌜ PutWhole (refusalLine number offset) (now (buf .entry)) (now (buf .exit)) r ⌝ }
 {
     let a = put_byte(buf, 0, b'E');
     let b = put_number(buf, a, number as usize);
@@ -126,7 +128,7 @@ fn refused_lines(
     layers: usize,
     temps: &[f64; MAX_LAYERS],
 ) -> usize
-    ensures { λ r. ⌜ (r ≡ length (refusedLines index number layers (now (temps .entry)))) × (now (buf .exit) ≡ written (now (buf .entry)) (refusedLines index number layers (now (temps .entry)))) × (r ≤ 1500) ⌝ }
+    ensures { λ r. ⌜ PutWhole (refusedLines index number layers (now (temps .entry))) (now (buf .entry)) (now (buf .exit)) r ⌝ }
 {
     let n = at_most(layers, MAX_LAYERS);
     let a = put_head(buf, index, number);
@@ -145,7 +147,7 @@ fn accepted_lines(
     order: [usize; MAX_HEATERS],
 ) -> usize
     requires { ⌜ (heaters ≤ maxHeaters) × ((k : ℕ) → k < heaters → getD order k 0 < maxHeaters) ⌝ }
-    ensures { λ r. ⌜ (r ≡ length (acceptedLines index report layers (now (temps .entry)) heaters order)) × (now (buf .exit) ≡ written (now (buf .entry)) (acceptedLines index report layers (now (temps .entry)) heaters order)) × (r ≤ 1500) ⌝ }
+    ensures { λ r. ⌜ PutWhole (acceptedLines index report layers (now (temps .entry)) heaters order) (now (buf .entry)) (now (buf .exit)) r ⌝ }
 {
     let n = at_most(layers, MAX_LAYERS);
     let a = put_head(buf, index, 0);
@@ -157,7 +159,7 @@ fn accepted_lines(
 
 // A step's lines, by its number. Its heaters are printed in working order.
 pub fn step_lines(buf: &mut [u8], index: usize, s: Stepped) -> usize
-    ensures { λ r. ⌜ (r ≡ length (stepLines index s)) × (now (buf .exit) ≡ written (now (buf .entry)) (stepLines index s)) × (r ≤ 1500) ⌝ }
+    ensures { λ r. ⌜ PutWhole (stepLines index s) (now (buf .entry)) (now (buf .exit)) r ⌝ }
 {
     let t = s.tank;
     let temps = t.temps;
@@ -167,7 +169,7 @@ pub fn step_lines(buf: &mut [u8], index: usize, s: Stepped) -> usize
     let report = s.report;
     let fitted = t.fitted;
     let n = at_most(t.heaters, MAX_HEATERS);
-    let positions = step_work::turns::positions_of(fitted);
-    let order = working_order::working_order(n, &positions);
+    let heaters = tank_arrays::arrays::heaters_of(fitted);
+    let order = working_order::working_order(n, &heaters);
     accepted_lines(buf, index, report, t.layers, &temps, n, order)
 }

@@ -7,14 +7,15 @@ use mathlib.Core.Logic.{_⊎_, inl, inr}
 use mathlib.Core.Path.{_≡_, refl, sym, ap, _∙_}
 use lib.ListN.{length}
 use denote.Ref.{RefT, now}
-use Rattle.job_reader.specs.declared.Reading.{Reading}
+use Rattle.job_records.specs.declared.Reading.{Reading}
 use Rattle.job_reader.specs.declared.reader.JobReader.{JobReader}
-use Rattle.job_reader.specs.Records.{refusedAt, readRecord}
-use Rattle.job_reader.specs.Reader.{newReader, isRefused, nextReading, nextReader, NextRead}
-use Rattle.job_reader.specs.WellFormed.{WellFormed}
+use Rattle.job_records.specs.Records.{refusedAt, readRecord}
+use Rattle.job_records.specs.Values.{isRefused}
+use Rattle.job_reader.specs.Reader.{newReader, nextReading, nextReader, NextRead}
+use Rattle.job_records.specs.WellFormed.{WellFormed}
 use Rattle.job_reader.specs.WholeJob.{Before, nothingBefore, counted, recordsFrom, recordsAt, jobRecords, ReadToEnd, refused, another, placedAt, Same}
-use Rattle.job_reader.proofs.ReadLaws.{read-either, well-formed-moves}
-use Rattle.job_reader.proofs.ValueLaws.{record-read}
+use Rattle.job_records.proofs.ReadLaws.{read-either, well-formed-moves}
+use Rattle.job_records.proofs.ValueLaws.{record-read}
 
 -- ---- so many records are enough from a position on; after one that is not refused, one fewer
 

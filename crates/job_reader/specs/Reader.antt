@@ -1,18 +1,17 @@
--- States the reader that carries its bytes (01, Forms Rattle lacks: the lent bytes and a position; The four calls): what it answers, where that leaves it, and what is left to read.
+-- States the reader that carries its bytes (01, Forms Rattle lacks: the lent bytes and a position; The four calls): what it answers, where that leaves it, and
+-- what is left to read.
 use Prim.Native.Nat.{ℕ, _-_}
-use mathlib.Core.Bool.{Bool, true, false, cond}
+use mathlib.Core.Bool.{Bool, cond}
 use mathlib.Core.List.{List}
 use mathlib.Core.Path.{_≡_}
 use lib.Dec.{leb}
 use lib.ListN.{length}
 use denote.Ref.{RefT, now}
-use Rattle.job_reader.specs.declared.Record.{Record}
-use Rattle.job_reader.specs.declared.Record.the-variants.{Tank, Heater as HeaterCase, Step, Refused}
-use Rattle.job_reader.specs.declared.Reading.{Reading}
+use Rattle.job_records.specs.declared.Reading.{Reading}
 use Rattle.job_reader.specs.declared.reader.JobReader.{JobReader}
-use Rattle.job_reader.specs.Records.{readRecord}
-use Rattle.job_reader.specs.Values.{valuesIn}
-use Rattle.job_reader.specs.ReadValues.{readValues, readNext}
+use Rattle.job_records.specs.Records.{readRecord}
+use Rattle.job_records.specs.Values.{isRefused, valuesIn}
+use Rattle.job_records.specs.ReadValues.{readValues, readNext}
 
 -- a reader of these bytes, at their start
 abbrev pub newReader : RefT (List ℕ) → JobReader
@@ -23,12 +22,6 @@ abbrev pub bytesLeft : List ℕ → ℕ → ℕ
 bytesLeft s at = cond (leb at (length s)) (length s - at) 0
 
 -- ---- one read
-
-unfoldable pub isRefused : Record → Bool
-isRefused (Tank t) = false
-isRefused (HeaterCase h) = false
-isRefused (Step p) = false
-isRefused Refused = true
 
 -- the answer is the record at the reader's place
 abbrev pub nextReading : JobReader → Bool → ℕ → Bool → Reading

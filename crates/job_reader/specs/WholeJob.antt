@@ -1,15 +1,17 @@
--- States a job read to its end (01, Job; The four calls): its records one after the other, each by what came before it, until one is refused; by positions, and through a reader.
+-- States a job read to its end (01, Job; The four calls): its records one after the other, each by what came before it, until one is refused; by
+-- positions, and through a reader.
 use Prim.Native.Nat.{ℕ, zero, suc, _+_}
 use mathlib.Core.Bool.{Bool, true, false, cond}
 use mathlib.Core.List.{List, [], _∷_}
 use mathlib.Core.Path.{_≡_}
 use lib.ListN.{length}
-use Rattle.job_reader.specs.declared.Record.{Record}
-use Rattle.job_reader.specs.declared.Record.the-variants.{Tank, Heater as HeaterCase, Step, Refused}
-use Rattle.job_reader.specs.declared.Reading.{Reading}
+use Rattle.job_records.specs.declared.Record.{Record}
+use Rattle.job_records.specs.declared.Record.the-variants.{Tank, Heater as HeaterCase, Step, Refused}
+use Rattle.job_records.specs.declared.Reading.{Reading}
 use Rattle.job_reader.specs.declared.reader.JobReader.{JobReader}
-use Rattle.job_reader.specs.Records.{readRecord}
-use Rattle.job_reader.specs.Reader.{isRefused, NextRead}
+use Rattle.job_records.specs.Records.{readRecord}
+use Rattle.job_records.specs.Values.{isRefused}
+use Rattle.job_reader.specs.Reader.{NextRead}
 
 -- ---- what came before a record: a tank or not, how many heaters, a step or not
 
@@ -60,8 +62,11 @@ jobRecords s = recordsAt s 0 nothingBefore
 
 -- reads one after the other, each as `next` promises, until one is refused: the records that they answer, and the reader that the last one leaves
 pub data ReadToEnd : JobReader → Before → List Reading → JobReader → Type 0 where
-  refused : (x : JobReader) (b : Before) (r : Reading) (y : JobReader) → NextRead x (b .tank) (b .heaters) (b .step) r y → isRefused (r .content) ≡ true → ReadToEnd x b [] y
-  another : (x : JobReader) (b : Before) (r : Reading) (y : JobReader) (rs : List Reading) (z : JobReader) → NextRead x (b .tank) (b .heaters) (b .step) r y → isRefused (r .content) ≡ false → ReadToEnd y (counted b (r .content)) rs z → ReadToEnd x b (r ∷ rs) z
+  refused : (x : JobReader) (b : Before) (r : Reading) (y : JobReader) → NextRead x (b .tank) (b .heaters) (b .step) r y → isRefused (r .content) ≡ true
+      → ReadToEnd x b [] y
+  another : (x : JobReader) (b : Before) (r : Reading) (y : JobReader) (rs : List Reading) (z : JobReader)
+      → NextRead x (b .tank) (b .heaters) (b .step) r y → isRefused (r .content) ≡ false → ReadToEnd y (counted b (r .content)) rs z
+      → ReadToEnd x b (r ∷ rs) z
 
 -- ---- the two beside each other
 

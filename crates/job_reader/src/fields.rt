@@ -3,12 +3,12 @@ ghost use mathlib.Core.Path.{_≡_};
 ghost use Prim.Native.Nat.{_+_, _*_, _≤_};
 ghost use lib.ListN.{length};
 ghost use Rattle.numeric.specs.Holds.{holds};
-ghost use Rattle.draw_off.specs.Lent.{maxEvents};
+ghost use Rattle.draw_events.specs.Lent.{maxEvents};
 ghost use Rattle.working_order.specs.Order.{maxHeaters};
-ghost use Rattle.job_reader.specs.Fields.{volumesAt, isPresenceAt, pointsAt, settingsAt};
-use crate::bytes::f64_at;
-use draw_off::event::MAX_EVENTS;
+ghost use Rattle.job_records.specs.Fields.{volumesAt, isPresenceAt, pointsAt, settingsAt};
+use draw_events::event::MAX_EVENTS;
 use heating::SetPoints;
+use job_records::bytes::f64_at;
 use tank_model::Setting;
 use working_order::MAX_HEATERS;
 

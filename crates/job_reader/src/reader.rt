@@ -1,8 +1,8 @@
 // The reader that carries its bytes: the lent slice and a place in it. Each function takes it apart and calls a function on the slice and the number.
 ghost use mathlib.Core.Path.{_≡_};
-ghost use Rattle.job_reader.specs.ReadValues.{RecordRead};
+ghost use Rattle.job_records.specs.ReadValues.{RecordRead};
 ghost use Rattle.job_reader.specs.Reader.{newReader, bytesLeft, NextRead};
-use crate::Reading;
+use job_records::Reading;
 
 pub struct JobReader<'a> {
     pub bytes: &'a [u8],

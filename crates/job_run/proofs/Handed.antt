@@ -1,4 +1,4 @@
--- Proves what a loop cites that stops at the first write that fails (01, Job): one turn more of a job; and that what was taken is a beginning of its text, and not all of it.
+-- Proves what a loop cites that stops at the first write that fails (01, Job): one record more of a job; and that what was taken is a beginning of its text, and not all of it.
 use Prim.Native.Nat.{ℕ, zero, suc, _+_, _≤_, _<_}
 use native.Mathlib.Omega.{arith}
 use mathlib.Core.Bool.{Bool, true, false, true≢false}
@@ -8,20 +8,20 @@ use lib.ListN.{length, length-append}
 use borrow.Author.Tests.{ltb-true, ltb-false}
 use Rattle.job_run.specs.declared.Job.{Job}
 use Rattle.job_run.specs.declared.Ran.{Ran}
-use Rattle.job_run.specs.Job.{Turn, startJob, followed, runFrom, runAll}
-use Rattle.job_run.specs.Handed.{Sends, firstTurns, Cut, Handed, Begins}
+use Rattle.job_run.specs.Job.{Outcome, startJob, followed, runFrom, runAll}
+use Rattle.job_run.specs.Handed.{Sends, firstRecords, Cut, Handed, Begins}
 use Rattle.job_run.proofs.Moves.{Moves}
 use Rattle.job_run.proofs.Ends.{run-ends}
-use Rattle.job_run.proofs.Rest.{Printing, printing-start, printing-turn, printing-end}
+use Rattle.job_run.proofs.Rest.{Printing, printing-start, printing-next, printing-end}
 
 -- the job after its first records, and the length of what they print
-pub record Reached (f : Job → Turn) (j : Job) (taken : ℕ) : Type 0 where
-  pub turns : ℕ
-  pub goes : firstTurns f turns .job ≡ j
-  pub counts : length (firstTurns f turns .text) ≡ taken
+pub record Reached (f : Job → Outcome) (j : Job) (taken : ℕ) : Type 0 where
+  pub records : ℕ
+  pub goes : firstRecords f records .job ≡ j
+  pub counts : length (firstRecords f records .text) ≡ taken
 
-module _ (f : Job → Turn) where
-  -- a record more is the next turn of the job that the first have left, unless that has ended
+module _ (f : Job → Outcome) where
+  -- a record more is the next record of the job that the first have left, unless that has ended
   one-more : (k : ℕ) (ended : Bool) (j : Job) → j .ended ≡ ended → runFrom f k ended j .job .ended ≡ false → runFrom f (suc k) ended j ≡ followed (runFrom f k ended j) (f (runFrom f k ended j .job))
   unfolding runFrom
   one-more zero true j e g = absurd (true≢false (sym e ∙ g))
@@ -31,22 +31,22 @@ module _ (f : Job → Turn) where
 
   reached-start : Reached f startJob 0
   unfolding runFrom
-  reached-start = record { turns = 0; goes = refl; counts = refl }
+  reached-start = record { records = 0; goes = refl; counts = refl }
 
   module _ (j : Job) (taken : ℕ) (r : Reached f j taken) (e : j .ended ≡ false) where
-    next : firstTurns f (suc (r .turns)) ≡ followed (firstTurns f (r .turns)) (f j)
-    next = one-more (r .turns) false startJob refl (ap (λ (i : Job). i .ended) (r .goes) ∙ e) ∙ ap (λ (i : Job). followed (firstTurns f (r .turns)) (f i)) (r .goes)
+    next : firstRecords f (suc (r .records)) ≡ followed (firstRecords f (r .records)) (f j)
+    next = one-more (r .records) false startJob refl (ap (λ (i : Job). i .ended) (r .goes) ∙ e) ∙ ap (λ (i : Job). followed (firstRecords f (r .records)) (f i)) (r .goes)
 
-    longer : length (firstTurns f (suc (r .turns)) .text) ≡ taken + length (f j .text)
-    longer = ap (λ (t : Turn). length (t .text)) next ∙ length-append (firstTurns f (r .turns) .text) (f j .text) ∙ ap (λ (n : ℕ). n + length (f j .text)) (r .counts)
+    longer : length (firstRecords f (suc (r .records)) .text) ≡ taken + length (f j .text)
+    longer = ap (λ (t : Outcome). length (t .text)) next ∙ length-append (firstRecords f (r .records) .text) (f j .text) ∙ ap (λ (n : ℕ). n + length (f j .text)) (r .counts)
 
     -- the next record's lines were taken to their end
-    reached-turn : (more : ℕ) → more ≡ length (f j .text) → Reached f (f j .job) (taken + more)
-    reached-turn more m = let n = longer in record { turns = suc (r .turns); goes = ap (λ (t : Turn). t .job) next; counts = omega arith }
+    reached-next : (more : ℕ) → more ≡ length (f j .text) → Reached f (f j .job) (taken + more)
+    reached-next more m = let n = longer in record { records = suc (r .records); goes = ap (λ (t : Outcome). t .job) next; counts = omega arith }
 
     -- they were not
     reached-cut : (more : ℕ) → more < length (f j .text) → Cut f j (taken + more)
-    reached-cut more l = let c = r .counts in let n = longer in record { turns = r .turns; goes = r .goes; before = omega arith; within = omega arith }
+    reached-cut more l = let c = r .counts in let n = longer in record { records = r .records; goes = r .goes; before = omega arith; within = omega arith }
 
   -- what the first records print begins what a run prints that has come to its end
   begins : (k m : ℕ) (ended : Bool) (j : Job) → j .ended ≡ ended → runFrom f m ended j .job .ended ≡ true → Begins (runFrom f k ended j .text) (runFrom f m ended j .text)
@@ -61,39 +61,39 @@ module _ (f : Job → Turn) where
       (b .0, append-assoc (t .text) _ (b .0) ∙ ap (λ r. t .text ++ r) (b .1))
 
 -- where a loop stands that prints a job, and no write has failed
-pub record Handing (f : Job → Turn) (size : ℕ) (j : Job) (taken : ℕ) : Type 0 where
+pub record Handing (f : Job → Outcome) (size : ℕ) (j : Job) (taken : ℕ) : Type 0 where
   pub printing : Printing f size j taken
   pub reached : Reached f j taken
 
-pub handing-start : (f : Job → Turn) (size : ℕ) → Handing f size startJob 0
+pub handing-start : (f : Job → Outcome) (size : ℕ) → Handing f size startJob 0
 handing-start f size = record { printing = printing-start f size; reached = reached-start f }
 
-pub handing-end : (f : Job → Turn) (size : ℕ) (j : Job) (taken : ℕ) → Handing f size j taken → j .ended ≡ true → Handed f size (record { job = j; taken = taken; failed = false })
+pub handing-end : (f : Job → Outcome) (size : ℕ) (j : Job) (taken : ℕ) → Handing f size j taken → j .ended ≡ true → Handed f size (record { job = j; taken = taken; failed = false })
 handing-end f size j taken h e = record { whole = λ _. printing-end f size j taken (h .printing) e; cut = λ g. absurd (true≢false (sym g)) }
 
--- the laws, of a turn f of any kind that moves as a record does
-module _ (f : Job → Turn) (size : ℕ) (moves : (j : Job) → Moves j size (f j)) where
-  pub firsts-begin : (k : ℕ) → Begins (firstTurns f k .text) (runAll f size .text)
+-- the laws, of an f of any kind that moves as a record does
+module _ (f : Job → Outcome) (size : ℕ) (moves : (j : Job) → Moves j size (f j)) where
+  pub firsts-begin : (k : ℕ) → Begins (firstRecords f k .text) (runAll f size .text)
   unfolding runAll
   firsts-begin k = begins f k (size + 1) false startJob refl (run-ends f size moves)
 
   pub cut-less : (j : Job) (taken : ℕ) → Cut f j taken → taken < length (runAll f size .text)
   cut-less j taken c =
-      let b = firsts-begin (suc (c .turns)) in
+      let b = firsts-begin (suc (c .records)) in
       let w = c .within in
-      let l = length-append (firstTurns f (suc (c .turns)) .text) (b .0) in
+      let l = length-append (firstRecords f (suc (c .records)) .text) (b .0) in
       let e = ap length (b .1) in
       omega arith
 
   -- a record's lines, and the loop goes on, or a write has failed, and it stops
   module _ (j : Job) (taken : ℕ) (r : Ran) (h : Handing f size j taken) (e : j .ended ≡ false) (s : Sends (f j) r) where
-    pub handing-turn : r .failed ≡ false → Handing f size (r .job) (taken + r .taken)
-    handing-turn g =
+    pub handing-next : r .failed ≡ false → Handing f size (r .job) (taken + r .taken)
+    handing-next g =
         let w = s .within in
         let l = ltb-false (r .taken) (length (f j .text)) (sym (s .told) ∙ g) in
         let m : r .taken ≡ length (f j .text) = omega arith in
         let q = s .short in
-        rw (s .goes) (record { printing = printing-turn f size moves j taken (r .taken) (h .printing) e m (omega arith); reached = reached-turn f j taken (h .reached) e (r .taken) m })
+        rw (s .goes) (record { printing = printing-next f size moves j taken (r .taken) (h .printing) e m (omega arith); reached = reached-next f j taken (h .reached) e (r .taken) m })
 
     pub handing-cut : r .failed ≡ true → Handed f size (record { job = j; taken = taken + r .taken; failed = true })
     handing-cut g = record {

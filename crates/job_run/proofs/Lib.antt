@@ -4,6 +4,6 @@ pub mod Ends
 pub mod Rest
 pub mod Handed
 pub mod EmptyInput
-pub mod TurnWindow
+pub mod RecordWindow
 pub mod Windowed
 pub mod WindowLoop

@@ -6,85 +6,86 @@ use mathlib.Core.List.{List, []}
 use mathlib.Core.Logic.{_⊎_, inl, inr}
 use mathlib.Core.Path.{_≡_, refl}
 use lib.ListN.{length}
-use lib.Dec.{ltb, eqb}
-use Rattle.working_order.specs.Order.{maxHeaters}
+use lib.Dec.{eqb}
 use Rattle.tank_model.specs.declared.Heater.{Heater}
 use Rattle.tank_model.specs.declared.TankDesign.{TankDesign}
 use Rattle.tank_model.specs.declared.Step.{Step}
+use Rattle.tank_model.specs.Checks.{heatersCheck}
 use Rattle.storage_tank.specs.Calls.{made}
-use Rattle.job_reader.specs.declared.Record.{Record}
-use Rattle.job_reader.specs.declared.Record.the-variants.{Tank, Heater as HeaterCase, Step as StepCase, Refused}
-use Rattle.job_reader.specs.declared.Reading.{Reading}
-use Rattle.job_reader.specs.WellFormed.{WellFormed}
-use Rattle.job_reader.specs.Records.{refusedAt}
-use Rattle.job_reader.proofs.ReadLaws.{read-either, well-formed-moves}
+use Rattle.job_records.specs.declared.Record.{Record}
+use Rattle.job_records.specs.declared.Record.the-variants.{Tank, Heater as HeaterCase, Step as StepCase, Refused}
+use Rattle.job_records.specs.declared.Reading.{Reading}
+use Rattle.job_records.specs.WellFormed.{WellFormed}
+use Rattle.job_records.specs.Records.{refusedAt}
+use Rattle.job_records.proofs.ReadLaws.{read-either, well-formed-moves}
 use Rattle.job_run.specs.declared.Job.{Job}
-use Rattle.job_run.specs.Job.{Turn, designOf, withHeater, stepOf, readingOf, endedJob, offsetOf, withTank, refusedTurn, madeTurn, heaterTurn, stepTurn, endTurn, turnOf, turn}
+use Rattle.job_run.specs.Job.{Outcome, designOf, withHeater, stepOf, readingOf, endedJob, offsetOf, withTank, refusedOutcome, madeOutcome, heaterOutcome, stepOutcome, endOutcome, outcomeOf, outcome}
 
 -- the job ends here, with no step more
-abbrev pub Ends : Job → Turn → Type 0
+abbrev pub Ends : Job → Outcome → Type 0
 Ends j t = (t .job .ended ≡ true) × (t .job .at ≡ j .at) × (t .job .steps ≡ j .steps) × (t .job .before ≡ j .before)
 
 -- it goes on at `next`, with one step more at most
-abbrev GoesOn : Job → ℕ → Turn → Type 0
+abbrev GoesOn : Job → ℕ → Outcome → Type 0
 GoesOn j next t = (t .job .ended ≡ j .ended) × (t .job .at ≡ next) × (t .job .steps ≤ j .steps + 1) × (t .job .before ≡ j .before)
 
 -- it goes on within the input, past a record of 16 bytes at least
-abbrev pub MovesOn : ℕ → Job → Turn → Type 0
+abbrev pub MovesOn : ℕ → Job → Outcome → Type 0
 MovesOn size j t = (t .job .ended ≡ j .ended) × (j .at + 16 ≤ t .job .at) × (t .job .at ≤ size) × (t .job .steps ≤ j .steps + 1) × (t .job .before ≡ j .before)
 
-either : (P : Turn → Type 0) (b : Bool) (x y : Turn) → P x → P y → P (cond b x y)
+either : (P : Outcome → Type 0) (b : Bool) (x y : Outcome) → P x → P y → P (cond b x y)
 either P true x y p q = p
 either P false x y p q = q
 
 module _ (j : Job) where
-  refused-ends : (n : ℕ) → Ends j (refusedTurn j n)
-  unfolding refusedTurn
+  refused-ends : (n : ℕ) → Ends j (refusedOutcome j n)
+  unfolding refusedOutcome
   refused-ends n = (refl, refl, refl, refl)
 
-  end-ends : (size number : ℕ) → Ends j (endTurn size j number)
-  unfolding endTurn
-  end-ends size n = either (Ends j) (eqb (j .at) size && not (eqb (offsetOf j) 0)) (record { job = endedJob j; text = [] }) (refusedTurn j n) (refl, refl, refl, refl) (refused-ends n)
+  end-ends : (size number : ℕ) → Ends j (endOutcome size j number)
+  unfolding endOutcome
+  end-ends size n = either (Ends j) (eqb (j .at) size && not (eqb (offsetOf j) 0)) (record { job = endedJob j; text = [] }) (refusedOutcome j n) (refl, refl, refl, refl) (refused-ends n)
 
   module _ (next : ℕ) where
-    abbrev Goes : Turn → Type 0
+    abbrev Goes : Outcome → Type 0
     Goes t = Ends j t ⊎ GoesOn j next t
 
-    made-goes : (d : TankDesign) → Goes (madeTurn j next d)
-    unfolding madeTurn
+    made-goes : (d : TankDesign) → Goes (madeOutcome j next d)
+    unfolding madeOutcome
     made-goes d =
         let m = made d in
-        either Goes (eqb (m .number) 0) (record { job = withTank j next d (m .tank); text = [] }) (refusedTurn j (m .number)) (inr (refl, refl, omega arith, refl)) (inl (refused-ends (m .number)))
+        either Goes (eqb (m .number) 0) (record { job = withTank j next d (m .tank); text = [] }) (refusedOutcome j (m .number)) (inr (refl, refl, omega arith, refl)) (inl (refused-ends (m .number)))
 
-    heater-goes : (h : Heater) → Goes (heaterTurn j next h)
-    unfolding heaterTurn
+    heater-goes : (h : Heater) → Goes (heaterOutcome j next h)
+    unfolding heaterOutcome
     heater-goes h =
         let d = withHeater (j .design) h in
-        either Goes (ltb (j .design .heaters) maxHeaters) (madeTurn j next d) (refusedTurn j 2) (made-goes d) (inl (refused-ends 2))
+        let n = heatersCheck (j .design .heaters + 1) in
+        either Goes (eqb n 0) (madeOutcome j next d) (refusedOutcome j n) (made-goes d) (inl (refused-ends n))
 
-    step-goes : (a : Step) → Goes (stepTurn j next a)
-    unfolding stepTurn
+    step-goes : (a : Step) → Goes (stepOutcome j next a)
+    unfolding stepOutcome
     step-goes a = inr (refl, refl, omega arith, refl)
 
-  of-goes : (bytes : List ℕ) (r : Reading) (x : Record) → Goes (r .next) (turnOf bytes j r x)
-  unfolding turnOf
+  of-goes : (bytes : List ℕ) (r : Reading) (x : Record) → Goes (r .next) (outcomeOf bytes j r x)
+  unfolding outcomeOf
   of-goes bytes r (Tank t) = made-goes (r .next) (designOf t)
   of-goes bytes r (HeaterCase h) = heater-goes (r .next) h
   of-goes bytes r (StepCase p) = step-goes (r .next) (stepOf p (r .volumes) (r .settings))
   of-goes bytes r Refused = inl (end-ends (length bytes) _)
 
   -- the law
-  abbrev pub Moves : ℕ → Turn → Type 0
+  abbrev pub Moves : ℕ → Outcome → Type 0
   Moves size t = Ends j t ⊎ MovesOn size j t
 
-  goes-moves : (size next : ℕ) (t : Turn) → (j .at + 16 ≤ next) × (next ≤ size) → Goes next t → Moves size t
+  goes-moves : (size next : ℕ) (t : Outcome) → (j .at + 16 ≤ next) × (next ≤ size) → Goes next t → Moves size t
   goes-moves size next t l (inl e) = inl e
   goes-moves size next t l (inr g) = inr (g .0, rw (g .1) (l .0), rw (g .1) (l .1), g .2, g .3)
 
-  pub turn-moves : (bytes : List ℕ) → Moves (length bytes) (turn bytes j)
-  unfolding turn turnOf
-  turn-moves bytes = go (readingOf bytes j) (read-either bytes (j .at) (j .«has_tank») (j .design .heaters) (not (eqb (j .steps) 0)))
+  pub record-moves : (bytes : List ℕ) → Moves (length bytes) (outcome bytes j)
+  unfolding outcome outcomeOf
+  record-moves bytes = go (readingOf bytes j) (read-either bytes (j .at) (j .«has_tank») (j .design .heaters) (not (eqb (j .steps) 0)))
     where
-      go : (r : Reading) → WellFormed bytes (j .at) (j .«has_tank») (j .design .heaters) (not (eqb (j .steps) 0)) r ⊎ (r ≡ refusedAt (j .at)) → Moves (length bytes) (turnOf bytes j r (r .content))
-      go r (inl w) = goes-moves (length bytes) (r .next) (turnOf bytes j r (r .content)) (well-formed-moves bytes (j .at) (j .«has_tank») (j .design .heaters) (not (eqb (j .steps) 0)) r w) (of-goes bytes r (r .content))
+      go : (r : Reading) → WellFormed bytes (j .at) (j .«has_tank») (j .design .heaters) (not (eqb (j .steps) 0)) r ⊎ (r ≡ refusedAt (j .at)) → Moves (length bytes) (outcomeOf bytes j r (r .content))
+      go r (inl w) = goes-moves (length bytes) (r .next) (outcomeOf bytes j r (r .content)) (well-formed-moves bytes (j .at) (j .«has_tank») (j .design .heaters) (not (eqb (j .steps) 0)) r w) (of-goes bytes r (r .content))
       go r (inr e) = rw e (inl (end-ends (length bytes) _))

@@ -1,4 +1,4 @@
--- Proves what the loops over a job's records cite (01, Job): what is left of a job is its next turn, and then what is left after it.
+-- Proves what the loops over a job's records cite (01, Job): what is left of a job is its next record, and then what is left after it.
 use Prim.Native.Nat.{ℕ, zero, suc, _+_, _-_, _*_, _≤_}
 use native.Mathlib.Omega.{arith}
 use native.Mathlib.Nat.{sub-zero}
@@ -7,49 +7,50 @@ use mathlib.Core.Bool.{Bool, true, false, true≢false}
 use mathlib.Core.List.{[], _++_}
 use mathlib.Core.Path.{_≡_, refl, sym, ap, _∙_}
 use lib.ListN.{length, length-append}
+use Rattle.job_lines.specs.Lengths.{maxText}
 use Rattle.job_run.specs.declared.Job.{Job}
-use Rattle.job_run.specs.Job.{Turn, startJob, followed, runFrom, runAll}
+use Rattle.job_run.specs.Job.{Outcome, startJob, followed, runFrom, runAll}
 use Rattle.job_run.proofs.Moves.{Moves}
-use Rattle.job_run.proofs.Ends.{Within, turnsLeft, start-within, turn-within, turn-before, turn-less}
+use Rattle.job_run.proofs.Ends.{Within, recordsLeft, start-within, record-within, record-before, record-less}
 
 -- what is left of a job: where it ends, and what it still prints
-unfoldable pub restOf : (Job → Turn) → ℕ → Job → Turn
-restOf f size j = runFrom f (turnsLeft size (j .ended) (j .at)) (j .ended) j
+unfoldable pub restOf : (Job → Outcome) → ℕ → Job → Outcome
+restOf f size j = runFrom f (recordsLeft size (j .ended) (j .at)) (j .ended) j
 
-pub rest-start : (f : Job → Turn) (size : ℕ) → restOf f size startJob ≡ runAll f size
+pub rest-start : (f : Job → Outcome) (size : ℕ) → restOf f size startJob ≡ runAll f size
 unfolding restOf runAll
 rest-start f size = rw (sub-zero, add-one)
 
-pub rest-ended : (f : Job → Turn) (size : ℕ) (j : Job) → j .ended ≡ true → restOf f size j ≡ record { job = j; text = [] }
+pub rest-ended : (f : Job → Outcome) (size : ℕ) (j : Job) → j .ended ≡ true → restOf f size j ≡ record { job = j; text = [] }
 unfolding restOf runFrom
 rest-ended f size j e = rw e
 
 -- where a loop stands that prints a job: what is left ends as the job does, and prints what is not printed yet
-pub record Printing (f : Job → Turn) (size : ℕ) (j : Job) (printed : ℕ) : Type 0 where
+pub record Printing (f : Job → Outcome) (size : ℕ) (j : Job) (printed : ℕ) : Type 0 where
   pub within : Within size j
   pub first : j .before ≡ 0
   pub ends : restOf f size j .job ≡ runAll f size .job
   pub counts : printed + length (restOf f size j .text) ≡ length (runAll f size .text)
-  pub few : printed + 1500 * turnsLeft size (j .ended) (j .at) ≤ 1500 * suc size
+  pub few : printed + maxText * recordsLeft size (j .ended) (j .at) ≤ maxText * suc size
 
-pub printing-start : (f : Job → Turn) (size : ℕ) → Printing f size startJob 0
+pub printing-start : (f : Job → Outcome) (size : ℕ) → Printing f size startJob 0
 printing-start f size = record {
   within = start-within size;
   first = refl;
-  ends = ap (λ (t : Turn). t .job) (rest-start f size);
-  counts = let e = ap (λ (t : Turn). length (t .text)) (rest-start f size) in omega arith;
+  ends = ap (λ (t : Outcome). t .job) (rest-start f size);
+  counts = let e = ap (λ (t : Outcome). length (t .text)) (rest-start f size) in omega arith;
   few = omega arith;
 }
 
-pub printing-end : (f : Job → Turn) (size : ℕ) (j : Job) (printed : ℕ) → Printing f size j printed → j .ended ≡ true → (j ≡ runAll f size .job) × (printed ≡ length (runAll f size .text))
+pub printing-end : (f : Job → Outcome) (size : ℕ) (j : Job) (printed : ℕ) → Printing f size j printed → j .ended ≡ true → (j ≡ runAll f size .job) × (printed ≡ length (runAll f size .text))
 printing-end f size j printed p e =
     let rest = rest-ended f size j e in
     let c : printed + 0 ≡ length (runAll f size .text) = rw rest at (p .counts) in
-    (sym (ap (λ (t : Turn). t .job) rest) ∙ p .ends, omega arith)
+    (sym (ap (λ (t : Outcome). t .job) rest) ∙ p .ends, omega arith)
 
-module _ (f : Job → Turn) (size : ℕ) (moves : (j : Job) → Moves j size (f j)) where
-  -- once there are turns enough, more of them change nothing
-  same : (k m : ℕ) (ended : Bool) (j : Job) → j .ended ≡ ended → Within size j → turnsLeft size ended (j .at) ≤ k → turnsLeft size ended (j .at) ≤ m → runFrom f k ended j ≡ runFrom f m ended j
+module _ (f : Job → Outcome) (size : ℕ) (moves : (j : Job) → Moves j size (f j)) where
+  -- once there are records enough, more of them change nothing
+  same : (k m : ℕ) (ended : Bool) (j : Job) → j .ended ≡ ended → Within size j → recordsLeft size ended (j .at) ≤ k → recordsLeft size ended (j .at) ≤ m → runFrom f k ended j ≡ runFrom f m ended j
   unfolding runFrom
   same zero zero ended j e w l h = refl
   same zero (suc m) true j e w l h = refl
@@ -59,33 +60,33 @@ module _ (f : Job → Turn) (size : ℕ) (moves : (j : Job) → Moves j size (f 
   same (suc k) (suc m) true j e w l h = refl
   same (suc k) (suc m) false j e w l h =
       let t = f j in
-      let less = turn-less f size moves j w e in
-      rw (same k m (t .job .ended) (t .job) refl (turn-within f size moves j w) (omega arith) (omega arith))
+      let less = record-less f size moves j w e in
+      rw (same k m (t .job .ended) (t .job) refl (record-within f size moves j w) (omega arith) (omega arith))
 
-  from-turn : (b : Bool) (j : Job) → b ≡ false → j .ended ≡ false → Within size j → runFrom f (turnsLeft size b (j .at)) b j ≡ followed (f j) (restOf f size (f j .job))
+  from-next : (b : Bool) (j : Job) → b ≡ false → j .ended ≡ false → Within size j → runFrom f (recordsLeft size b (j .at)) b j ≡ followed (f j) (restOf f size (f j .job))
   unfolding restOf runFrom
-  from-turn true j g e w = absurd (true≢false g)
-  from-turn false j g e w =
+  from-next true j g e w = absurd (true≢false g)
+  from-next false j g e w =
       let t = f j in
-      let less = turn-less f size moves j w e in
-      rw (same (size - j .at) (turnsLeft size (t .job .ended) (t .job .at)) (t .job .ended) (t .job) refl (turn-within f size moves j w) (omega arith) (omega arith))
+      let less = record-less f size moves j w e in
+      rw (same (size - j .at) (recordsLeft size (t .job .ended) (t .job .at)) (t .job .ended) (t .job) refl (record-within f size moves j w) (omega arith) (omega arith))
 
-  pub rest-turn : (j : Job) → Within size j → j .ended ≡ false → restOf f size j ≡ followed (f j) (restOf f size (f j .job))
+  pub rest-next : (j : Job) → Within size j → j .ended ≡ false → restOf f size j ≡ followed (f j) (restOf f size (f j .job))
   unfolding restOf
-  rest-turn j w e = from-turn (j .ended) j e e w
+  rest-next j w e = from-next (j .ended) j e e w
 
-  pub printing-turn : (j : Job) (printed more : ℕ) → Printing f size j printed → j .ended ≡ false → more ≡ length (f j .text) → more ≤ 1500 → Printing f size (f j .job) (printed + more)
-  printing-turn j printed more p e m l =
+  pub printing-next : (j : Job) (printed more : ℕ) → Printing f size j printed → j .ended ≡ false → more ≡ length (f j .text) → more ≤ maxText → Printing f size (f j .job) (printed + more)
+  printing-next j printed more p e m l =
       let t = f j in
       let rest = restOf f size (t .job) in
-      let step = rest-turn j (p .within) e in
+      let step = rest-next j (p .within) e in
       let counted : printed + length (t .text ++ rest .text) ≡ length (runAll f size .text) = rw step at (p .counts) in
-      let left : printed + 1500 * suc (size - j .at) ≤ 1500 * suc size = rw e at (p .few) in
-      let less = turn-less f size moves j (p .within) e in
+      let left : printed + maxText * suc (size - j .at) ≤ maxText * suc size = rw e at (p .few) in
+      let less = record-less f size moves j (p .within) e in
       record {
-        within = turn-within f size moves j (p .within);
-        first = turn-before f size moves j (p .within) ∙ p .first;
-        ends = sym (ap (λ (u : Turn). u .job) step) ∙ p .ends;
+        within = record-within f size moves j (p .within);
+        first = record-before f size moves j (p .within) ∙ p .first;
+        ends = sym (ap (λ (u : Outcome). u .job) step) ∙ p .ends;
         counts = let c = counted in let a = length-append (t .text) (rest .text) in omega arith;
         few = omega arith;
       }

@@ -6,18 +6,19 @@ use mathlib.Core.List.{List, [], _++_, append-assoc, append-nil}
 use mathlib.Core.Path.{_≡_, refl, sym, ap, subst, _∙_}
 use borrow.Author.Tests.{not-true}
 use lib.ListN.{length, length-append}
-use Rattle.job_reader.proofs.ReadLaws.{both}
+use Rattle.numeric.specs.Holds.{both}
+use Rattle.job_lines.specs.Lengths.{maxText}
 use Rattle.job_run.specs.declared.Job.{Job}
-use Rattle.job_run.specs.Job.{Turn, followed}
+use Rattle.job_run.specs.Job.{Outcome, followed}
 use Rattle.job_run.specs.Windows.{runReady, Stops}
 use Rattle.job_run.proofs.Moves.{Moves}
-use Rattle.job_run.proofs.Ends.{Within, turnsLeft, turn-within, turn-before, turn-less}
+use Rattle.job_run.proofs.Ends.{Within, recordsLeft, record-within, record-before, record-less}
 
-module _ (f : Job → Turn) (ready : ℕ → Bool) where
+module _ (f : Job → Outcome) (ready : ℕ → Bool) where
   abbrev pub goesOn : Job → Bool
   goesOn j = not (j .ended) && ready (j .at)
 
-  -- one record more is the next turn of the job that the first ones left
+  -- one record more is the next record of the job that the first ones left
   one-more : (n : ℕ) (j : Job) → goesOn (runReady f ready n j .job) ≡ true → runReady f ready (suc n) j ≡ followed (runReady f ready n j) (f (runReady f ready n j .job))
   unfolding runReady
   one-more zero j g = rw (g, append-nil)
@@ -46,13 +47,13 @@ module _ (f : Job → Turn) (ready : ℕ → Bool) where
     pub counts : length (runReady f ready records j₀ .text) ≡ taken
     pub within : Within size j
     pub before : j .before ≡ j₀ .before
-    pub few : taken + 1500 * turnsLeft size (j .ended) (j .at) ≤ 1500 * suc size
+    pub few : taken + maxText * recordsLeft size (j .ended) (j .at) ≤ maxText * suc size
 
   pub running-start : (size : ℕ) (j : Job) → Within size j → Running size j j 0
   unfolding runReady
   running-start size j w = record { records = 0; goes = refl; counts = refl; within = w; before = refl; few = few (j .ended) }
     where
-      few : (b : Bool) → 0 + 1500 * turnsLeft size b (j .at) ≤ 1500 * suc size
+      few : (b : Bool) → 0 + maxText * recordsLeft size b (j .at) ≤ maxText * suc size
       few true = omega arith
       few false = omega arith
 
@@ -64,19 +65,19 @@ module _ (f : Job → Turn) (ready : ℕ → Bool) where
     next = one-more (r .records) j₀ (ap goesOn (r .goes) ∙ on) ∙ ap (λ (i : Job). followed (runReady f ready (r .records) j₀) (f i)) (r .goes)
 
     longer : length (runReady f ready (suc (r .records)) j₀ .text) ≡ taken + length (f j .text)
-    longer = ap (λ (t : Turn). length (t .text)) next ∙ length-append (runReady f ready (r .records) j₀ .text) (f j .text) ∙ ap (λ (n : ℕ). n + length (f j .text)) (r .counts)
+    longer = ap (λ (t : Outcome). length (t .text)) next ∙ length-append (runReady f ready (r .records) j₀ .text) (f j .text) ∙ ap (λ (n : ℕ). n + length (f j .text)) (r .counts)
 
     -- the record's lines were taken to their end
-    pub running-turn : (more : ℕ) → more ≡ length (f j .text) → more ≤ 1500 → Running size j₀ (f j .job) (taken + more)
-    running-turn more e l =
-        let left : taken + 1500 * turnsLeft size false (j .at) ≤ 1500 * suc size = rw not-ended at (r .few) in
-        let less = turn-less f size moves j (r .within) not-ended in
+    pub running-next : (more : ℕ) → more ≡ length (f j .text) → more ≤ maxText → Running size j₀ (f j .job) (taken + more)
+    running-next more e l =
+        let left : taken + maxText * recordsLeft size false (j .at) ≤ maxText * suc size = rw not-ended at (r .few) in
+        let less = record-less f size moves j (r .within) not-ended in
         record {
           records = suc (r .records);
-          goes = ap (λ (t : Turn). t .job) next;
+          goes = ap (λ (t : Outcome). t .job) next;
           counts = rw e longer;
-          within = turn-within f size moves j (r .within);
-          before = turn-before f size moves j (r .within) ∙ r .before;
+          within = record-within f size moves j (r .within);
+          before = record-before f size moves j (r .within) ∙ r .before;
           few = omega arith;
         }
 
@@ -89,8 +90,8 @@ module _ (f : Job → Turn) (ready : ℕ → Bool) where
   unfolding runReady
   run-within size moves zero j w = (w, refl)
   run-within size moves (suc n) j w =
-      let more = run-within size moves n (f j .job) (turn-within f size moves j w) in
-      go (goesOn j) (more .0, more .1 ∙ turn-before f size moves j w)
+      let more = run-within size moves n (f j .job) (record-within f size moves j w) in
+      go (goesOn j) (more .0, more .1 ∙ record-before f size moves j w)
     where
       go : (b : Bool) → Within size (runReady f ready n (f j .job) .job) × (runReady f ready n (f j .job) .job .before ≡ j .before) → let t = cond b (followed (f j) (runReady f ready n (f j .job))) (record { job = j; text = [] }) in Within size (t .job) × (t .job .before ≡ j .before)
       go true more = more

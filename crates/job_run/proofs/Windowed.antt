@@ -8,29 +8,29 @@ use mathlib.Core.Path.{_≡_, refl, sym, ap, subst, _∙_}
 use borrow.Author.Tests.{leb-true, not-true}
 use lib.Dec.{leb}
 use lib.ListN.{length}
-use Rattle.job_reader.specs.Windows.{Window, AreBytes, maxRecord, isReady}
-use Rattle.job_reader.proofs.ReadLaws.{both}
+use Rattle.job_records.specs.Windows.{Window, AreBytes, maxRecord, isReady}
+use Rattle.numeric.specs.Holds.{both}
 use Rattle.job_run.specs.declared.Job.{Job}
-use Rattle.job_run.specs.Job.{Turn, startJob, offsetOf, followed, turn, runAll, jobText}
-use Rattle.job_run.specs.Windows.{inWhole, turnInWhole, movedUp, runReady, windowTurns, windowRun, Windowed, begun, another}
-use Rattle.job_run.proofs.Moves.{Moves, turn-moves}
-use Rattle.job_run.proofs.Ends.{Within, turnsLeft, turn-within, turn-before, turn-less}
-use Rattle.job_run.proofs.Rest.{restOf, rest-start, rest-turn, rest-ended}
-use Rattle.job_run.proofs.TurnWindow.{Ready, turn-window}
+use Rattle.job_run.specs.Job.{Outcome, startJob, offsetOf, followed, outcome, runAll, jobText}
+use Rattle.job_run.specs.Windows.{inWhole, outcomeInWhole, movedUp, runReady, windowRecords, windowRun, Windowed, begun, another}
+use Rattle.job_run.proofs.Moves.{Moves, record-moves}
+use Rattle.job_run.proofs.Ends.{Within, recordsLeft, record-within, record-before, record-less}
+use Rattle.job_run.proofs.Rest.{restOf, rest-start, rest-next, rest-ended}
+use Rattle.job_run.proofs.RecordWindow.{Ready, record-window}
 
 -- what records do: they move on as a job's do, and do in a window what they do in the whole input
-pub record Windows (f : List ℕ → Job → Turn) (s : List ℕ) : Type 0 where
+pub record Windows (f : List ℕ → Job → Outcome) (s : List ℕ) : Type 0 where
   pub moves : (bytes : List ℕ) (j : Job) → Moves j (length bytes) (f bytes j)
-  pub whole : (w : List ℕ) (j : Job) → Window s (j .before) w → j .at ≤ length w → Ready s w j → f s (inWhole j) ≡ turnInWhole (f w j)
+  pub whole : (w : List ℕ) (j : Job) → Window s (j .before) w → j .at ≤ length w → Ready s w j → f s (inWhole j) ≡ outcomeInWhole (f w j)
 
-module _ (f : List ℕ → Job → Turn) (s : List ℕ) (law : Windows f s) where
+module _ (f : List ℕ → Job → Outcome) (s : List ℕ) (law : Windows f s) where
   -- what is left of the whole input, seen from a job in a window
-  abbrev left : Job → Turn
+  abbrev left : Job → Outcome
   left j = restOf (f s) (length s) (inWhole j)
 
   -- one window, k bytes on in the input
   module _ (k : ℕ) (w : List ℕ) (last : Bool) (window : Window s k w) (honest : last ≡ true → k + length w ≡ length s) where
-    abbrev run : ℕ → Job → Turn
+    abbrev run : ℕ → Job → Outcome
     run n j = runReady (f w) (isReady w last) n j
 
     ready : (j : Job) → j .before ≡ k → isReady w last (j .at) ≡ true → Ready s w j
@@ -48,14 +48,14 @@ module _ (f : List ℕ → Job → Turn) (s : List ℕ) (law : Windows f s) wher
         record { placed = omega arith; counted = omega arith }
 
     -- a record that is run here: what was left is what it prints, and then what is left after it
-    turn-left : (j : Job) → j .before ≡ k → Within (length w) j → (not (j .ended) && isReady w last (j .at)) ≡ true → left j ≡ followed (f w j) (left (f w j .job))
-    turn-left j e x t =
+    record-left : (j : Job) → j .before ≡ k → Within (length w) j → (not (j .ended) && isReady w last (j .at)) ≡ true → left j ≡ followed (f w j) (left (f w j .job))
+    record-left j e x t =
         let p = both (not (j .ended)) _ t in
-        let one = rest-turn (f s) (length s) (law .moves s) (inWhole j) (seen j e x) (not-true _ (p .0)) in
+        let one = rest-next (f s) (length s) (law .moves s) (inWhole j) (seen j e x) (not-true _ (p .0)) in
         one ∙ rw (law .whole w j (rw e window) (x .placed) (ready j e (p .1)))
 
     -- where the run of a window stands, and what was left before it
-    pub record Run (j : Job) (r : Turn) : Type 0 where
+    pub record Run (j : Job) (r : Outcome) : Type 0 where
       pub leaves : left j ≡ followed r (left (r .job))
       pub within : Within (length w) (r .job)
       pub before : r .job .before ≡ k
@@ -63,9 +63,9 @@ module _ (f : List ℕ → Job → Turn) (s : List ℕ) (law : Windows f s) wher
     stays : (j : Job) → j .before ≡ k → Within (length w) j → Run j (record { job = j; text = [] })
     stays j e x = record { leaves = refl; within = x; before = e }
 
-    goes : (j : Job) → j .before ≡ k → Within (length w) j → (not (j .ended) && isReady w last (j .at)) ≡ true → (r : Turn) → Run (f w j .job) r → Run j (followed (f w j) r)
+    goes : (j : Job) → j .before ≡ k → Within (length w) j → (not (j .ended) && isReady w last (j .at)) ≡ true → (r : Outcome) → Run (f w j .job) r → Run j (followed (f w j) r)
     goes j e x t r rest = record {
-      leaves = turn-left j e x t ∙ rw (rest .leaves, append-assoc (f w j .text) (r .text) (left (r .job) .text));
+      leaves = record-left j e x t ∙ rw (rest .leaves, append-assoc (f w j .text) (r .text) (left (r .job) .text));
       within = rest .within;
       before = rest .before;
     }
@@ -74,7 +74,7 @@ module _ (f : List ℕ → Job → Turn) (s : List ℕ) (law : Windows f s) wher
     unfolding runReady
     run-runs zero j e x = stays j e x
     run-runs (suc n) j e x =
-        go (λ t. goes j e x t (run n (f w j .job)) (run-runs n (f w j .job) (turn-before (f w) (length w) (law .moves w) j x ∙ e) (turn-within (f w) (length w) (law .moves w) j x))) (not (j .ended) && isReady w last (j .at)) refl
+        go (λ t. goes j e x t (run n (f w j .job)) (run-runs n (f w j .job) (record-before (f w) (length w) (law .moves w) j x ∙ e) (record-within (f w) (length w) (law .moves w) j x))) (not (j .ended) && isReady w last (j .at)) refl
       where
         go : ((not (j .ended) && isReady w last (j .at)) ≡ true → Run j (followed (f w j) (run n (f w j .job)))) → (b : Bool) → (not (j .ended) && isReady w last (j .at)) ≡ b → Run j (cond b (followed (f w j) (run n (f w j .job))) (record { job = j; text = [] }))
         go g true t = g t
@@ -96,7 +96,7 @@ module _ (f : List ℕ → Job → Turn) (s : List ℕ) (law : Windows f s) wher
       let i = told j text d in
       let a = i .begins in
       let c = i .counted in
-      let r = windowTurns f w last n j in
+      let r = windowRecords f w last n j in
       let x : Run (j .before) w last window honest j r = run-runs (j .before) w last window honest n j refl (record { placed = omega arith; counted = omega arith }) in
       let b = x .before in
       let y = x .within .counted in
@@ -114,19 +114,19 @@ module _ (f : List ℕ → Job → Turn) (s : List ℕ) (law : Windows f s) wher
   windowed-whole j text d e =
       let i = told j text d in
       let none = rest-ended (f s) (length s) (inWhole j) e in
-      sym (append-nil text) ∙ rw none at (ap (λ (t : Turn). t .text) (i .whole))
+      sym (append-nil text) ∙ rw none at (ap (λ (t : Outcome). t .text) (i .whole))
 
   -- the last window ends the job: all that is left can be read in it
-  last-ends : (w : List ℕ) (n : ℕ) (j : Job) → Within (length w) j → (b : Bool) → j .ended ≡ b → turnsLeft (length w) b (j .at) ≤ n → runReady (f w) (isReady w true) n j .job .ended ≡ true
+  last-ends : (w : List ℕ) (n : ℕ) (j : Job) → Within (length w) j → (b : Bool) → j .ended ≡ b → recordsLeft (length w) b (j .at) ≤ n → runReady (f w) (isReady w true) n j .job .ended ≡ true
   unfolding runReady
   last-ends w zero j x true e l = e
   last-ends w zero j x false e l = absurd (omega arith)
   last-ends w (suc n) j x true e l = rw e refl
   last-ends w (suc n) j x false e l =
-      let less = turn-less (f w) (length w) (law .moves w) j x e in
+      let less = record-less (f w) (length w) (law .moves w) j x e in
       let next = f w j .job in
       subst (λ (b : Bool). cond (not b && isReady w true (j .at)) (followed (f w j) (runReady (f w) (isReady w true) n next)) (record { job = j; text = [] }) .job .ended ≡ true) (sym e)
-      (last-ends w n next (turn-within (f w) (length w) (law .moves w) j x) (next .ended) refl (omega arith))
+      (last-ends w n next (record-within (f w) (length w) (law .moves w) j x) (next .ended) refl (omega arith))
 
   pub last-window-ends : (j : Job) (text : List ℕ) → Windowed f s j text → (w : List ℕ) → windowRun f w true j .job .ended ≡ true
   last-window-ends j text d w =
@@ -135,19 +135,19 @@ module _ (f : List ℕ → Job → Turn) (s : List ℕ) (law : Windows f s) wher
       let c = i .counted in
       last-ends w (length w + 1) j (record { placed = omega arith; counted = omega arith }) (j .ended) refl (few (j .ended))
     where
-      few : (b : Bool) → turnsLeft (length w) b (j .at) ≤ length w + 1
+      few : (b : Bool) → recordsLeft (length w) b (j .at) ≤ length w + 1
       few true = omega arith
       few false = omega arith
 
 -- ---- the theorem, for what a job prints
 
-pub turn-windows : (s : List ℕ) → AreBytes s → Windows turn s
-turn-windows s bytes = record { moves = λ b j. turn-moves j b; whole = turn-window s bytes }
+pub record-windows : (s : List ℕ) → AreBytes s → Windows outcome s
+record-windows s bytes = record { moves = λ b j. record-moves j b; whole = record-window s bytes }
 
 -- a job that is told window by window to its end prints what the whole job prints
-pub job-windowed : (s : List ℕ) → AreBytes s → (j : Job) (text : List ℕ) → Windowed turn s j text → j .ended ≡ true → text ≡ jobText s
-job-windowed s bytes = windowed-whole turn s (turn-windows s bytes)
+pub job-windowed : (s : List ℕ) → AreBytes s → (j : Job) (text : List ℕ) → Windowed outcome s j text → j .ended ≡ true → text ≡ jobText s
+job-windowed s bytes = windowed-whole outcome s (record-windows s bytes)
 
 -- and the last window takes it to its end
-pub job-last-ends : (s : List ℕ) → AreBytes s → (j : Job) (text : List ℕ) → Windowed turn s j text → (w : List ℕ) → windowRun turn w true j .job .ended ≡ true
-job-last-ends s bytes = last-window-ends turn s (turn-windows s bytes)
+pub job-last-ends : (s : List ℕ) → AreBytes s → (j : Job) (text : List ℕ) → Windowed outcome s j text → (w : List ℕ) → windowRun outcome w true j .job .ended ≡ true
+job-last-ends s bytes = last-window-ends outcome s (record-windows s bytes)

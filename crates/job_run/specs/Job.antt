@@ -3,7 +3,7 @@ use Prim.Native.Nat.{ℕ, zero, suc, _+_, _*_, _≤_, _<_}
 use mathlib.Core.Bool.{Bool, true, false, cond, not, _&&_}
 use mathlib.Core.Path.{_≡_}
 use mathlib.Core.List.{List, [], _++_}
-use lib.Dec.{ltb, eqb}
+use lib.Dec.{eqb}
 use lib.ListN.{length, set, replicate}
 use lib.Ieee.{Float}
 use Rattle.numeric.specs.Double.{zero-f}
@@ -12,18 +12,21 @@ use Rattle.tank_model.specs.declared.Heater.{Heater}
 use Rattle.tank_model.specs.declared.TankDesign.{TankDesign}
 use Rattle.tank_model.specs.declared.Setting.{Setting}
 use Rattle.tank_model.specs.declared.Step.{Step}
+use Rattle.tank_model.specs.Fixed.{zeroHeater}
+use Rattle.tank_model.specs.Checks.{heatersCheck}
 use Rattle.tank_model.specs.Work.{zeroLine}
 use Rattle.storage_tank.specs.declared.StorageTank.{StorageTank}
 use Rattle.storage_tank.specs.declared.Report.{Report}
-use Rattle.storage_tank.specs.Calls.{zeroHeater, zeroTank, made, stepped}
-use Rattle.job_reader.specs.declared.TankRecord.{TankRecord}
-use Rattle.job_reader.specs.declared.StepRecord.{StepRecord}
-use Rattle.job_reader.specs.declared.Record.{Record}
-use Rattle.job_reader.specs.declared.Record.the-variants.{Tank, Heater as HeaterCase, Step as StepCase, Refused}
-use Rattle.job_reader.specs.declared.Reading.{Reading}
-use Rattle.job_reader.specs.Records.{readRecord}
-use Rattle.job_reader.specs.Values.{zeroTankRecord, numberIn}
+use Rattle.storage_tank.specs.Calls.{zeroTank, made, stepped}
+use Rattle.job_records.specs.declared.TankRecord.{TankRecord}
+use Rattle.job_records.specs.declared.StepRecord.{StepRecord}
+use Rattle.job_records.specs.declared.Record.{Record}
+use Rattle.job_records.specs.declared.Record.the-variants.{Tank, Heater as HeaterCase, Step as StepCase, Refused}
+use Rattle.job_records.specs.declared.Reading.{Reading}
+use Rattle.job_records.specs.Records.{readRecord}
+use Rattle.job_records.specs.Values.{zeroTankRecord, numberIn}
 use Rattle.job_lines.specs.Put.{written}
+use Rattle.job_lines.specs.Lengths.{maxText}
 use Rattle.job_lines.specs.Lines.{refusalLine, stepLines}
 use Rattle.job_run.specs.declared.Job.{Job}
 use Rattle.job_run.specs.declared.Printed.{Printed}
@@ -76,19 +79,28 @@ startJob = record { before = 0; at = 0; ended = false; «has_tank» = false; ste
 -- ---- one record
 
 -- the job after a record, and what the record prints
-pub record Turn : Type 0 where
+pub record Outcome : Type 0 where
   pub job : Job
   pub text : List ℕ
 
--- a function's answer and its lent buffer are a turn's job and text, which is never long
-pub record Turned (t : Turn) (before after : List ℕ) (r : Printed) : Type 0 where
+-- a function's answer and its lent buffer are an outcome's job and text, which is never long
+pub record Gives (t : Outcome) (before after : List ℕ) (r : Printed) : Type 0 where
   pub goes : r .job ≡ t .job
   pub counts : r .length ≡ length (t .text)
   pub prints : after ≡ written before (t .text)
-  pub short : r .length ≤ 1500
+  pub short : r .length ≤ maxText
 
 abbrev pub endedJob : Job → Job
-endedJob j = record { before = j .before; at = j .at; ended = true; «has_tank» = j .«has_tank»; steps = j .steps; design = j .design; tank = j .tank; report = j .report }
+endedJob j = record {
+  before = j .before;
+  at = j .at;
+  ended = true;
+  «has_tank» = j .«has_tank»;
+  steps = j .steps;
+  design = j .design;
+  tank = j .tank;
+  report = j .report;
+}
 
 -- the next record's start in the whole input
 abbrev pub offsetOf : Job → ℕ
@@ -99,65 +111,68 @@ abbrev pub Countable : Job → Type 0
 Countable j = (16 * j .steps ≤ offsetOf j) × (offsetOf j < 9223372036854775808)
 
 -- a refusal outside a step prints its number and the record's start, and ends the program
-unfoldable pub refusedTurn : Job → ℕ → Turn
-refusedTurn j number = record { job = endedJob j; text = refusalLine number (offsetOf j) }
+unfoldable pub refusedOutcome : Job → ℕ → Outcome
+refusedOutcome j number = record { job = endedJob j; text = refusalLine number (offsetOf j) }
+
+-- a number other than 0 is a refusal
+abbrev pub unlessRefused : Job → ℕ → Outcome → Outcome
+unlessRefused j number t = cond (eqb number 0) t (refusedOutcome j number)
 
 abbrev pub withTank : Job → ℕ → TankDesign → StorageTank → Job
 withTank j next d t = record { before = j .before; at = next; ended = j .ended; «has_tank» = true; steps = j .steps; design = d; tank = t; report = j .report }
 
 -- the tank made, or the number of make's refusal
-unfoldable pub madeTurn : Job → ℕ → TankDesign → Turn
-madeTurn j next d =
-    let m = made d in
-    cond (eqb (m .number) 0) (record { job = withTank j next d (m .tank); text = [] }) (refusedTurn j (m .number))
+unfoldable pub madeOutcome : Job → ℕ → TankDesign → Outcome
+madeOutcome j next d = let m = made d in unlessRefused j (m .number) (record { job = withTank j next d (m .tank); text = [] })
 
--- 2 and 5 come at the heater's record
-unfoldable pub heaterTurn : Job → ℕ → Heater → Turn
-heaterTurn j next h = cond (ltb (j .design .heaters) maxHeaters) (madeTurn j next (withHeater (j .design) h)) (refusedTurn j 2)
+-- 2 and 5 come at the heater's record, with the newcomer in: 2 before it is fitted, 5 where the tank is made
+unfoldable pub heaterOutcome : Job → ℕ → Heater → Outcome
+heaterOutcome j next h = unlessRefused j (heatersCheck (j .design .heaters + 1)) (madeOutcome j next (withHeater (j .design) h))
 
 abbrev pub afterStep : Job → ℕ → StorageTank → Report → Job
-afterStep j next t r = record { before = j .before; at = next; ended = j .ended; «has_tank» = j .«has_tank»; steps = j .steps + 1; design = j .design; tank = t; report = r }
+afterStep j next t r =
+    record { before = j .before; at = next; ended = j .ended; «has_tank» = j .«has_tank»; steps = j .steps + 1; design = j .design; tank = t; report = r }
 
 -- a step's lines; refused or not, the job goes on and the index counts it
-unfoldable pub stepTurn : Job → ℕ → Step → Turn
-stepTurn j next a =
+unfoldable pub stepOutcome : Job → ℕ → Step → Outcome
+stepOutcome j next a =
     let s = stepped (j .tank) (j .report) a in
     record { job = afterStep j next (s .tank) (s .report); text = stepLines (j .steps) s }
 
 -- the input's end ends the program; empty input, and any other refused record, is refused with the number of the reader's answer
-unfoldable pub endTurn : ℕ → Job → ℕ → Turn
-endTurn size j number = cond (eqb (j .at) size && not (eqb (offsetOf j) 0)) (record { job = endedJob j; text = [] }) (refusedTurn j number)
+unfoldable pub endOutcome : ℕ → Job → ℕ → Outcome
+endOutcome size j number = cond (eqb (j .at) size && not (eqb (offsetOf j) 0)) (record { job = endedJob j; text = [] }) (refusedOutcome j number)
 
-unfoldable pub turnOf : List ℕ → Job → Reading → Record → Turn
-turnOf bytes j r (Tank t) = madeTurn j (r .next) (designOf t)
-turnOf bytes j r (HeaterCase h) = heaterTurn j (r .next) h
-turnOf bytes j r (StepCase p) = stepTurn j (r .next) (stepOf p (r .volumes) (r .settings))
-turnOf bytes j r Refused = endTurn (length bytes) j (numberIn Refused)
+unfoldable pub outcomeOf : List ℕ → Job → Reading → Record → Outcome
+outcomeOf bytes j r (Tank t) = madeOutcome j (r .next) (designOf t)
+outcomeOf bytes j r (HeaterCase h) = heaterOutcome j (r .next) h
+outcomeOf bytes j r (StepCase p) = stepOutcome j (r .next) (stepOf p (r .volumes) (r .settings))
+outcomeOf bytes j r Refused = endOutcome (length bytes) j (numberIn Refused)
 
 abbrev pub readingOf : List ℕ → Job → Reading
 readingOf bytes j = readRecord bytes (j .at) (j .«has_tank») (j .design .heaters) (not (eqb (j .steps) 0))
 
-unfoldable pub turn : List ℕ → Job → Turn
-turn bytes j = turnOf bytes j (readingOf bytes j) (readingOf bytes j .content)
+unfoldable pub outcome : List ℕ → Job → Outcome
+outcome bytes j = outcomeOf bytes j (readingOf bytes j) (readingOf bytes j .content)
 
 -- ---- the whole job
 
--- one turn, then what follows it
-abbrev pub followed : Turn → Turn → Turn
+-- one record, then what follows it
+abbrev pub followed : Outcome → Outcome → Outcome
 followed t u = record { job = u .job; text = t .text ++ u .text }
 
 -- the records from here on, so many at most: the job after them, and all that they print
-unfoldable pub runFrom : (Job → Turn) → ℕ → Bool → Job → Turn
+unfoldable pub runFrom : (Job → Outcome) → ℕ → Bool → Job → Outcome
 runFrom f zero ended j = record { job = j; text = [] }
 runFrom f (suc k) true j = record { job = j; text = [] }
 runFrom f (suc k) false j = let t = f j in followed t (runFrom f k (t .job .ended) (t .job))
 
--- a whole input of `size` bytes: each record but the last moves the position, so there are no more turns than bytes, and one
-unfoldable pub runAll : (Job → Turn) → ℕ → Turn
+-- a whole input of `size` bytes: each record but the last moves the position, so there are no more records than bytes, and one
+unfoldable pub runAll : (Job → Outcome) → ℕ → Outcome
 runAll f size = runFrom f (size + 1) false startJob
 
-abbrev pub jobRun : List ℕ → Turn
-jobRun bytes = runAll (turn bytes) (length bytes)
+abbrev pub jobRun : List ℕ → Outcome
+jobRun bytes = runAll (outcome bytes) (length bytes)
 
 -- all that a job prints
 abbrev pub jobText : List ℕ → List ℕ

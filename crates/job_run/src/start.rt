@@ -4,9 +4,9 @@ ghost use Prim.Native.Nat.{_<_};
 ghost use Rattle.working_order.specs.Order.{maxHeaters};
 ghost use Rattle.job_run.specs.Job.{noReport, designOf, withHeater, noDesign, startJob, stepOf};
 use crate::Job;
-use draw_off::event::MAX_EVENTS;
-use job_reader::StepRecord;
-use job_reader::TankRecord;
+use draw_events::event::MAX_EVENTS;
+use job_records::StepRecord;
+use job_records::TankRecord;
 use storage_tank::Report;
 use tank_model::Heater;
 use tank_model::Setting;
@@ -23,7 +23,7 @@ fn no_report() -> Report
         used: 0.0,
         average: 0.0,
         recoverable: 0.0,
-        lines: [step_work::turns::zero_line(); MAX_HEATERS],
+        lines: [tank_model::zero_line(); MAX_HEATERS],
     }
 }
 
@@ -41,7 +41,7 @@ pub fn design_of(t: TankRecord) -> TankDesign
         ambient: t.ambient,
         timestep: t.timestep,
         heaters: 0,
-        fitted: [storage_tank::make::zero_heater(); MAX_HEATERS],
+        fitted: [tank_model::zero_heater(); MAX_HEATERS],
     }
 }
 

@@ -7,7 +7,7 @@ use mathlib.Core.Path.{_≡_, refl, sym, ap, _∙_}
 use lib.Dec.{ltb}
 use lib.ListN.{length, take, drop}
 use lib.Seq.{length-take-le, take-take}
-use Rattle.job_reader.specs.Windows.{isReady}
+use Rattle.job_records.specs.Windows.{isReady}
 use Rattle.job_run.specs.declared.Job.{Job}
 use Rattle.job_run.specs.declared.Ran.{Ran}
 use Rattle.job_run.specs.Job.{startJob}

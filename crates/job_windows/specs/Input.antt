@@ -1,15 +1,15 @@
--- States what becomes of a window of standard input (01, Job), whatever was read into it: the bytes that it held stay its first, its records are run, and the rest
--- of it begins the next window.
+-- States what becomes of a window of standard input (01, Job), whatever was read into it: the bytes that it held stay its first, its records are run, and the
+-- rest of it begins the next window.
 use Prim.Native.Nat.{ℕ, _+_, _*_, _-_, _≤_}
 use mathlib.Core.Bool.{Bool, true, false}
 use mathlib.Core.List.{List}
 use mathlib.Core.Path.{_≡_}
 use lib.Dec.{ltb}
 use lib.ListN.{length, take, drop}
-use Rattle.job_reader.specs.Windows.{Window, isReady}
+use Rattle.job_records.specs.Windows.{Window, isReady}
 use Rattle.job_run.specs.declared.Job.{Job}
-use Rattle.job_run.specs.Job.{Turn}
-use Rattle.job_run.specs.Windows.{movedUp, windowTurns, Stops}
+use Rattle.job_run.specs.Job.{Outcome}
+use Rattle.job_run.specs.Windows.{movedUp, windowRecords, Stops}
 use Rattle.job_windows.specs.declared.input.Next.{Next}
 use Rattle.job_windows.specs.Kinds.{maxWindow}
 
@@ -19,20 +19,20 @@ Open buf held j = (length buf ≡ maxWindow) × (held ≤ maxWindow) × (j .at �
 
 -- how the window w was taken, called the last where it is not full: after n records, where the job ends or the next cannot be read in w, the job stands at the
 -- beginning of the next window, which is what is left of w
-pub record Taken (f : List ℕ → Job → Turn) (held : ℕ) (before after : List ℕ) (j : Job) (r : Next) : Type 0 where
+pub record Taken (f : List ℕ → Job → Outcome) (held : ℕ) (before after : List ℕ) (j : Job) (r : Next) : Type 0 where
   pub w : List ℕ
   pub records : ℕ
   pub keeps : take held w ≡ take held before
   pub fits : length w ≤ maxWindow
-  pub goes : r .job ≡ movedUp (windowTurns f w (ltb (length w) maxWindow) records j .job)
-  pub stops : Stops (isReady w (ltb (length w) maxWindow)) (windowTurns f w (ltb (length w) maxWindow) records j)
-  pub stays : windowTurns f w (ltb (length w) maxWindow) records j .job .before ≡ j .before
-  pub within : windowTurns f w (ltb (length w) maxWindow) records j .job .at ≤ length w
-  pub leaves : take (r .held) after ≡ drop (windowTurns f w (ltb (length w) maxWindow) records j .job .at) w
-  pub holds : r .held ≡ length w - windowTurns f w (ltb (length w) maxWindow) records j .job .at
+  pub goes : r .job ≡ movedUp (windowRecords f w (ltb (length w) maxWindow) records j .job)
+  pub stops : Stops (isReady w (ltb (length w) maxWindow)) (windowRecords f w (ltb (length w) maxWindow) records j)
+  pub stays : windowRecords f w (ltb (length w) maxWindow) records j .job .before ≡ j .before
+  pub within : windowRecords f w (ltb (length w) maxWindow) records j .job .at ≤ length w
+  pub leaves : take (r .held) after ≡ drop (windowRecords f w (ltb (length w) maxWindow) records j .job .at) w
+  pub holds : r .held ≡ length w - windowRecords f w (ltb (length w) maxWindow) records j .job .at
   pub counted : 16 * r .job .steps ≤ r .job .before
 
-pub record WindowTaken (f : List ℕ → Job → Turn) (held : ℕ) (before after : List ℕ) (j : Job) (r : Next) : Type 0 where
+pub record WindowTaken (f : List ℕ → Job → Outcome) (held : ℕ) (before after : List ℕ) (j : Job) (r : Next) : Type 0 where
   pub size : length after ≡ length before
   pub taken : r .failed ≡ false → Taken f held before after j r
 

@@ -4,14 +4,14 @@ use mathlib.Core.Bool.{Bool, true, false, not, _&&_, _||_}
 use mathlib.Core.List.{List}
 use lib.Dec.{leb}
 use lib.ListN.{length}
-use Rattle.job_reader.specs.Windows.{maxRecord}
+use Rattle.job_records.specs.Windows.{maxRecord}
 use Rattle.job_run.specs.declared.Job.{Job}
-use Rattle.job_run.specs.Job.{Turn, turn}
-use Rattle.job_history.specs.History.{historyTurn}
+use Rattle.job_run.specs.Job.{Outcome, outcome}
+use Rattle.job_history.specs.History.{historyOutcome}
 
-unfoldable pub linesOf : Bool → List ℕ → Job → Turn
-linesOf true bytes j = historyTurn bytes j
-linesOf false bytes j = turn bytes j
+unfoldable pub linesOf : Bool → List ℕ → Job → Outcome
+linesOf true bytes j = historyOutcome bytes j
+linesOf false bytes j = outcome bytes j
 
 abbrev pub maxWindow : ℕ
 maxWindow = 1048576

@@ -62,8 +62,8 @@ fn take_window(program: &[u8], buf: &mut [u8], held: usize, job: Job, history: b
     }
 }
 
-// A job of any length from standard input: its lines, or those of its history, to standard output. A read or a write that fails ends it, and standard error says why.
-// `space` is for the window, whatever is in it: an argument's length is known to the proof without being counted out.
+// A job of any length from standard input: its lines, or those of its history, to standard output. A read or a write that fails ends it, and standard error
+// says why. `space` is for the window, whatever is in it: an argument's length is known to the proof without being counted out.
 pub fn run_input(program: &[u8], history: bool, space: [u8; MAX_WINDOW]) {
     let mut buf = space;
     let mut job = job_run::start::start();

@@ -1,5 +1,5 @@
 // A record's lines handed on: its figures, as `job` prints them, or its history.
-ghost use Rattle.job_run.specs.Job.{Countable, Turned};
+ghost use Rattle.job_run.specs.Job.{Countable, Gives};
 ghost use Rattle.job_run.specs.Handed.{Sends};
 ghost use Rattle.job_windows.specs.Kinds.{linesOf};
 use job_run::Job;
@@ -8,7 +8,7 @@ use job_run::Ran;
 
 fn next_lines(buf: &mut [u8], bytes: &[u8], job: Job, history: bool) -> Printed
     requires { ⌜ Countable job ⌝ }
-    ensures { λ r. ⌜ Turned (linesOf history (now (bytes .entry)) job) (now (buf .entry)) (now (buf .exit)) r ⌝ }
+    ensures { λ r. ⌜ Gives (linesOf history (now (bytes .entry)) job) (now (buf .entry)) (now (buf .exit)) r ⌝ }
 {
     if history {
         return job_history::record::next_history(buf, bytes, job);

@@ -3,7 +3,7 @@ ghost use mathlib.Core.Path.{_≡_};
 ghost use mathlib.Core.List.{_++_};
 ghost use Prim.Native.Nat.{_+_, _-_, _*_, _≤_, _<_};
 ghost use lib.ListN.{length, take, drop};
-ghost use Rattle.job_reader.specs.Windows.{isReady};
+ghost use Rattle.job_records.specs.Windows.{isReady};
 ghost use Rattle.job_run.specs.Windows.{movedUp, WindowHanded};
 ghost use Rattle.job_windows.specs.Kinds.{linesOf, goesOn, InWindow, maxWindow};
 use job_run::Job;

@@ -5,8 +5,8 @@ use Prim.Native.Nat.{ℕ, zero, suc, _+_, _-_, _≤_, _<_}
 use native.Mathlib.Omega.{arith}
 use lib.ListN.{getD, set}
 use lib.Ieee.{Float, nan}
-use Rattle.numeric.specs.Turns.{turns-reach}
-use Rattle.numeric.specs.Places.{Keeps, keeps-self, keeps-trans, keeps-set, turns-keeps}
+use Rattle.numeric.specs.Iterate.{iterate-reach}
+use Rattle.numeric.specs.Places.{Keeps, keeps-self, keeps-trans, keeps-set, iterate-keeps}
 use Rattle.mixing.specs.Limits.{maxRounds}
 use Rattle.mixing.specs.Round.{Walk, joins, groupTemp, fill, pair, oneRound}
 use Rattle.mixing.specs.Rearrange.{isSorted, rounds, rearrange}
@@ -15,7 +15,7 @@ use Rattle.mixing.proofs.Group.{pair-bottom}
 
 pub fill-keeps : (n i end : ℕ) (x : Float) (temps : List Float) → i ≤ end → end ≤ n → Keeps n temps (fill i end x temps)
 fill-keeps n i end x temps h l =
-    turns-keeps (λ (k : ℕ) (t : List Float). set t k x) n (λ k t m. keeps-set n t k x m) (end - i) i temps (omega arith)
+    iterate-keeps (λ (k : ℕ) (t : List Float). set t k x) n (λ k t m. keeps-set n t k x m) (end - i) i temps (omega arith)
 
 module _ (n : ℕ) (vol temps : List Float) where
   -- where a walk has come to: the group starts at or below the next pair, and what stands past the layers is as it was
@@ -40,7 +40,7 @@ module _ (n : ℕ) (vol temps : List Float) where
   round-keeps : Keeps n temps (oneRound n vol temps)
   unfolding oneRound
   round-keeps =
-      turns-reach (pair n vol) Walked (n - 1) pair-keeps (n - 1) 0 (record { temps = temps; bottom = 0 }) (omega arith) (omega arith, keeps-self n temps) .1
+      iterate-reach (pair n vol) Walked (n - 1) pair-keeps (n - 1) 0 (record { temps = temps; bottom = 0 }) (omega arith) (omega arith, keeps-self n temps) .1
 
 rounds-keeps : (left : ℕ) (b : Bool) (k n : ℕ) (vol temps old : List Float) → Keeps n old temps → Keeps n old (tempsOf old (rounds left b k n vol temps))
 unfolding rounds

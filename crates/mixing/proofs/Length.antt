@@ -6,7 +6,7 @@ use Prim.Native.Nat.{ℕ, zero, suc, _+_, _-_}
 use native.Mathlib.Omega.{arith}
 use lib.Ieee.{Float}
 use lib.ListN.{length, set, length-set}
-use Rattle.numeric.specs.Turns.{turns-keep}
+use Rattle.numeric.specs.Iterate.{iterate-keep}
 use Rattle.mixing.specs.Limits.{maxRounds}
 use Rattle.mixing.specs.Round.{Walk, groupTemp, fill, pair, oneRound}
 use Rattle.mixing.specs.Rearrange.{isSorted, rounds, rearrange}
@@ -19,7 +19,7 @@ module _ (m : ℕ) where
 
   fill-length : (i end : ℕ) (x : Float) (temps : List Float) → Long temps → Long (fill i end x temps)
   fill-length i end x temps e =
-      turns-keep (λ (k : ℕ) (t : List Float). set t k x) Long (i + (end - i)) (λ k t h r. length-set t k x ∙ r) (end - i) i temps (omega arith) e
+      iterate-keep (λ (k : ℕ) (t : List Float). set t k x) Long (i + (end - i)) (λ k t h r. length-set t k x ∙ r) (end - i) i temps (omega arith) e
 
   module _ (n : ℕ) (vol : List Float) where
     pub pair-length : (i : ℕ) (w : Walk) → Long (w .temps) → Long (pair n vol i w .temps)
@@ -30,7 +30,7 @@ module _ (m : ℕ) where
     pub round-length : (temps : List Float) → Long temps → Long (oneRound n vol temps)
     unfolding oneRound
     round-length temps e =
-        turns-keep (pair n vol) (λ (w : Walk). Long (w .temps)) (n - 1) (λ i w h r. pair-length i w r) (n - 1) 0 (record { temps = temps; bottom = 0 }) (omega arith) e
+        iterate-keep (pair n vol) (λ (w : Walk). Long (w .temps)) (n - 1) (λ i w h r. pair-length i w r) (n - 1) 0 (record { temps = temps; bottom = 0 }) (omega arith) e
 
     rounds-length : (left : ℕ) (b : Bool) (k : ℕ) (temps old : List Float) → Long temps → Long old → Long (tempsOf old (rounds left b k n vol temps))
     unfolding rounds

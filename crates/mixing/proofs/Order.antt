@@ -45,16 +45,16 @@ module _ (n : ℕ) (vol temps : List Float) where
   longer k h s j l u = ⊎-elim (λ (v : j ≤ k). h j l v) (λ (e : j ≡ suc k). rw e s) (le-suc-iff .0 u)
 
   -- one more round, and then those that are left, if it gave no order
-  turn : (left k : ℕ) → suc k ≤ maxRounds n → NoneTo k → (NoneTo (suc k) → Outcome (rounds left false (suc k) n vol (afterRounds (suc k) n vol temps))) → (b : Bool) → isSorted n (afterRounds (suc k) n vol temps) ≡ b → Outcome (rounds left b (suc k) n vol (afterRounds (suc k) n vol temps))
-  turn left k l h next true s =
+  next-round : (left k : ℕ) → suc k ≤ maxRounds n → NoneTo k → (NoneTo (suc k) → Outcome (rounds left false (suc k) n vol (afterRounds (suc k) n vol temps))) → (b : Bool) → isSorted n (afterRounds (suc k) n vol temps) ≡ b → Outcome (rounds left b (suc k) n vol (afterRounds (suc k) n vol temps))
+  next-round left k l h next true s =
       accepted (afterRounds (suc k) n vol temps) (suc k) (rounds-sorted left (suc k) n vol (afterRounds (suc k) n vol temps))
       (record { one = omega arith; limit = l; layers = refl; order = s; least = λ j a b. h j a (omega arith) })
-  turn left k l h next false s = next (longer k h s)
+  next-round left k l h next false s = next (longer k h s)
 
   outcome : (left k : ℕ) → k + left ≡ maxRounds n → NoneTo k → Outcome (rounds left false k n vol (afterRounds k n vol temps))
   unfolding rounds afterRounds
   outcome zero k e h = refused refl (λ j l u. h j l (omega arith))
-  outcome (suc left) k e h = rw add-one (turn left k (omega arith) h (λ g. outcome left (suc k) (omega arith) g) (isSorted n (afterRounds (suc k) n vol temps)) refl)
+  outcome (suc left) k e h = rw add-one (next-round left k (omega arith) h (λ g. outcome left (suc k) (omega arith) g) (isSorted n (afterRounds (suc k) n vol temps)) refl)
 
   -- of two least rounds each is at least the other
   no-later : (us vs : List Float) (j k : ℕ) → LeastRound n vol temps us j → LeastRound n vol temps vs k → k ≤ j

@@ -7,7 +7,7 @@ use native.Mathlib.Omega.{arith}
 use lib.Ieee.{Float, nan}
 use lib.ListN.{length, getD, set, length-set, List·getD-append}
 use lib.Seq.{set-append-left}
-use Rattle.numeric.specs.Turns.{turns-beside}
+use Rattle.numeric.specs.Iterate.{iterate-beside}
 use Rattle.numeric.specs.Holds.{holds-same}
 use Rattle.numeric.specs.Tabulate.{tabulate-same}
 use Rattle.mixing.specs.Limits.{maxRounds}
@@ -35,7 +35,7 @@ module _ (n : ℕ) (x : Float) (ys : List Float) where
 
   fill-first : (i end : ℕ) (xs : List Float) → i ≤ end → end ≤ n → length xs ≡ n → Filled end (fill i end x xs) (fill i end x (xs ++ ys))
   fill-first i end xs h l e =
-      turns-beside (λ (k : ℕ) (t : List Float). set t k x) (λ (k : ℕ) (t : List Float). set t k x) Filled n store (end - i) i xs (xs ++ ys) (omega arith) (e, refl)
+      iterate-beside (λ (k : ℕ) (t : List Float). set t k x) (λ (k : ℕ) (t : List Float). set t k x) Filled n store (end - i) i xs (xs ++ ys) (omega arith) (e, refl)
 
 module _ (n : ℕ) (vol vol′ ys : List Float) (v : SameBelow n vol vol′) where
   getD-first : (xs : List Float) → length xs ≡ n → (j : ℕ) → j < n → getD (xs ++ ys) j nan ≡ getD xs j nan
@@ -74,7 +74,7 @@ module _ (n : ℕ) (vol vol′ ys : List Float) (v : SameBelow n vol vol′) whe
   round-first : (xs : List Float) → 1 ≤ n → length xs ≡ n → (length (oneRound n vol xs) ≡ n) × (oneRound n vol′ (xs ++ ys) ≡ oneRound n vol xs ++ ys)
   unfolding oneRound
   round-first xs l e =
-      let w = turns-beside (pair n vol) (pair n vol′) Walked (n - 1) pair-first (n - 1) 0 (record { temps = xs; bottom = 0 }) (record { temps = xs ++ ys; bottom = 0 }) (omega arith) (e, omega arith, refl) in
+      let w = iterate-beside (pair n vol) (pair n vol′) Walked (n - 1) pair-first (n - 1) 0 (record { temps = xs; bottom = 0 }) (record { temps = xs ++ ys; bottom = 0 }) (omega arith) (e, omega arith, refl) in
       (w .0, ap (λ (z : Walk). z .temps) (w .2))
 
   sorted-first : (xs : List Float) → length xs ≡ n → isSorted n (xs ++ ys) ≡ isSorted n xs

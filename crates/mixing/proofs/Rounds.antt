@@ -20,8 +20,8 @@ unfolding rounds
 rounds-none left k n vol temps h = let e : left ≡ 0 = omega arith in rw e
 
 -- one more round, after which k + 1 have run and b says whether the layers are in order
-pub rounds-turn : (limit k n : ℕ) (vol temps next : List Float) (b : Bool) → k < limit → next ≡ oneRound n vol temps → isSorted n next ≡ b → rounds (limit - k) false k n vol temps ≡ rounds (limit - (k + 1)) b (k + 1) n vol next
+pub rounds-next : (limit k n : ℕ) (vol temps next : List Float) (b : Bool) → k < limit → next ≡ oneRound n vol temps → isSorted n next ≡ b → rounds (limit - k) false k n vol temps ≡ rounds (limit - (k + 1)) b (k + 1) n vol next
 unfolding rounds
-rounds-turn limit k n vol temps next b h e s =
+rounds-next limit k n vol temps next b h e s =
     let d : limit - k ≡ suc (limit - (k + 1)) = omega arith in
     rw (d, ← s, e)

@@ -2,5 +2,4 @@
 pub mod Limits
 pub mod Round
 pub mod Rearrange
-pub mod Running
 pub mod Mix

@@ -69,6 +69,14 @@ abbrev pub answerOf : Mixing → MixAnswer
 answerOf (sorted after k) = Mixed k
 answerOf unsorted = Refused 9
 
+-- n layers of these volumes were mixed in place: the answer is the mixing's, and `after` is what it leaves of `temps`
+abbrev pub Rearranged : ℕ → List Float → List Float → MixAnswer → List Float → Type 0
+Rearranged n vol temps answer after = (answer ≡ answerOf (rearrange n vol temps)) × (after ≡ tempsOf temps (rearrange n vol temps))
+
+-- the same of a call's layers, which all have the one volume
+abbrev pub MixWorked : List Float → Float → MixAnswer → List Float → Type 0
+MixWorked layers volume answer after = (answer ≡ answerOf (mixing layers volume)) × (after ≡ tempsOf layers (mixing layers volume))
+
 abbrev pub mixAnswer : List Float → Float → MixAnswer
 mixAnswer layers volume = cond (eqb (mixRefusal layers volume) 0) (answerOf (mixing layers volume)) (Refused (mixRefusal layers volume))
 

@@ -8,7 +8,7 @@ use lib.Dec.{leb, ltb}
 use lib.Ieee.{Float, nan, lt}
 use Rattle.numeric.specs.Double.{_⊛_, _⊘_, zero-f, one-f}
 use Rattle.numeric.specs.Close.{narrowClose}
-use Rattle.numeric.specs.Turns.{turns}
+use Rattle.numeric.specs.Iterate.{iterate}
 use Rattle.numeric.specs.Tabulate.{tabulate}
 use Rattle.numeric.specs.Sum2.{sum2}
 
@@ -34,12 +34,15 @@ groupTemp n vol temps bottom end =
 
 -- the places from i to below `end` take x
 abbrev pub fill : ℕ → ℕ → Float → List Float → List Float
-fill i end x temps = turns (λ (k : ℕ) (t : List Float). set t k x) (end - i) i temps
+fill i end x temps = iterate (λ (k : ℕ) (t : List Float). set t k x) (end - i) i temps
 
 -- where a walk has come to: the temperatures, and the lowest layer of the group that has the pair's lower layer
 pub record Walk : Type 0 where
   pub temps : List Float
   pub bottom : ℕ
+
+abbrev pub walkAt : List Float → ℕ → Walk
+walkAt temps bottom = record { temps = temps; bottom = bottom }
 
 -- the pair of the layers i and i + 1: it joins the group, whose layers all take the group's temperature; or it ends the group
 unfoldable pub pair : ℕ → List Float → ℕ → Walk → Walk
@@ -50,4 +53,4 @@ pair n vol i w =
 
 -- one round: the pairs from the bottom up
 unfoldable pub oneRound : ℕ → List Float → List Float → List Float
-oneRound n vol temps = turns (pair n vol) (n - 1) 0 (record { temps = temps; bottom = 0 }) .temps
+oneRound n vol temps = iterate (pair n vol) (n - 1) 0 (record { temps = temps; bottom = 0 }) .temps

@@ -1,10 +1,5 @@
-// The mixing of a cylinder's layers: `rearrange_temperatures`, worked in place, and the call `mix`.
+// What a mixing of a cylinder's layers is: its definitions and their laws, its limits, and its answer. The crate `rearrange` works it.
 pub mod limits;
-pub mod mix;
-pub mod plain;
-pub mod rearrange;
-pub mod round;
-pub mod running;
 
 // What the call `mix` answers: the rounds run, or the number of 01's refusal.
 pub enum MixAnswer {

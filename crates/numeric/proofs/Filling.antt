@@ -8,7 +8,7 @@ use native.Mathlib.Omega.{arith}
 use lib.ListN.{length, set, take, replicate, length-replicate, getD-replicate, drop-of-length-le}
 use lib.Seq.{take-all}
 use Rattle.numeric.specs.Tabulate.{tabulate, length-tabulate, at-tabulate}
-use Rattle.numeric.specs.Copy.{copied, copied-turn}
+use Rattle.numeric.specs.Copy.{copied, copied-next}
 
 module _ {A : Type 0} where
   pub take-replicate : (n m : ℕ) (x : A) → n ≤ m → take n (replicate m x) ≡ replicate n x
@@ -17,12 +17,12 @@ module _ {A : Type 0} where
   take-replicate (suc n) (suc m) x l = ap (λ (ys : List A). x ∷ ys) (take-replicate n m x (le-of-suc-le-suc l))
 
   -- the first k of n places at x
-  pub filled-turn : (n k : ℕ) (x d : A) (ys : List A) → k < n → k < length ys → set (copied k (replicate n x) ys) k x ≡ copied (k + 1) (replicate n x) ys
-  filled-turn n k x d ys l m = rw (getD-replicate n k x d l) at (copied-turn d k (replicate n x) ys (rw (length-replicate n x) l) m)
+  pub filled-next : (n k : ℕ) (x d : A) (ys : List A) → k < n → k < length ys → set (copied k (replicate n x) ys) k x ≡ copied (k + 1) (replicate n x) ys
+  filled-next n k x d ys l m = rw (getD-replicate n k x d l) at (copied-next d k (replicate n x) ys (rw (length-replicate n x) l) m)
 
   -- the first k of n places from g
-  pub tabulated-turn : (g : ℕ → A) (n k : ℕ) (d : A) (ys : List A) → k < n → k < length ys → set (copied k (tabulate g n 0) ys) k (g k) ≡ copied (k + 1) (tabulate g n 0) ys
-  tabulated-turn g n k d ys l m = rw (at-tabulate g n k d l) at (copied-turn d k (tabulate g n 0) ys (rw (length-tabulate g n 0) l) m)
+  pub tabulated-next : (g : ℕ → A) (n k : ℕ) (d : A) (ys : List A) → k < n → k < length ys → set (copied k (tabulate g n 0) ys) k (g k) ≡ copied (k + 1) (tabulate g n 0) ys
+  tabulated-next g n k d ys l m = rw (at-tabulate g n k d l) at (copied-next d k (tabulate g n 0) ys (rw (length-tabulate g n 0) l) m)
 
   pub tabulated-end : (g : ℕ → A) (n : ℕ) (ys : List A) → length ys ≡ n → copied n (tabulate g n 0) ys ≡ tabulate g n 0
   tabulated-end g n ys e =

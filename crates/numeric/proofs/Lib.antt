@@ -10,9 +10,4 @@ pub mod Finite
 pub mod SameValue
 pub mod Members
 pub mod Within
-pub mod Sterbenz
-pub mod FastTwoSum
-pub mod FourTerms
-pub mod EqualTerms
-pub mod Fourfold
 pub mod Filling

@@ -13,9 +13,9 @@ use lib.Ieee.Fits.{add-fits}
 use lib.Ieee.Scale.{finite}
 use Rattle.numeric.specs.declared.sum2.Accumulator.{Accumulator}
 use Rattle.numeric.specs.Double.{_⊕_, _⊖_, _⊛_, zero-f, one-f}
-use Rattle.numeric.specs.Turns.{turns, turns-split}
+use Rattle.numeric.specs.Iterate.{iterate, iterate-split}
 use Rattle.numeric.specs.Zeros.{signed-zero, IsZero, SameValue}
-use Rattle.numeric.specs.Sum2.{nothing-added, accumulate, sumTurn}
+use Rattle.numeric.specs.Sum2.{nothing-added, accumulate, addAt}
 use Rattle.numeric.proofs.Difference.{minus-self}
 use Rattle.numeric.proofs.Zeros.{isMinusZero, zero-written, plus-zero, zero-plus, times-one, add-not-minus}
 use Rattle.numeric.proofs.Finite.{sum-parts-finite}
@@ -146,54 +146,54 @@ unfolding accumulate
 term-finite a b h = sum-parts-finite (a .s) b h
 
 module _ (g : ℕ → Float) where
-  zero-terms : (k i : ℕ) (a : Accumulator) → Stable a → ((j : ℕ) → Among i k j → IsZero (g j)) → turns (sumTurn g) k i a ≡ a
-  unfolding turns
+  zero-terms : (k i : ℕ) (a : Accumulator) → Stable a → ((j : ℕ) → Among i k j → IsZero (g j)) → iterate (addAt g) k i a ≡ a
+  unfolding iterate
   zero-terms zero i a h z = refl
   zero-terms (suc k) i a h z = rw (zero-term a (g i) h (z i (omega arith, omega arith))) (zero-terms k (i + 1) a h (λ j w. z j (omega arith, omega arith)))
 
-  pub stable-terms : (k i : ℕ) (a : Accumulator) → Stable a → ((j : ℕ) → Among i k j → T (fits binary64 (g j))) → Stable (turns (sumTurn g) k i a)
-  unfolding turns
+  pub stable-terms : (k i : ℕ) (a : Accumulator) → Stable a → ((j : ℕ) → Among i k j → T (fits binary64 (g j))) → Stable (iterate (addAt g) k i a)
+  unfolding iterate
   stable-terms zero i a h f = h
   stable-terms (suc k) i a h f = stable-terms k (i + 1) (accumulate a (g i)) (stable-term (g i) (f i (omega arith, omega arith)) a h) (λ j w. f j (omega arith, omega arith))
 
   -- a finite s answers for each term
-  terms-finite : (k i : ℕ) (a : Accumulator) → T (finite (turns (sumTurn g) k i a .s)) → T (finite (a .s)) × ((j : ℕ) → Among i k j → T (finite (g j)))
-  unfolding turns
+  terms-finite : (k i : ℕ) (a : Accumulator) → T (finite (iterate (addAt g) k i a .s)) → T (finite (a .s)) × ((j : ℕ) → Among i k j → T (finite (g j)))
+  unfolding iterate
   terms-finite zero i a h = (h, λ j w. absurd (omega arith))
   terms-finite (suc k) i a h =
       let rest = terms-finite k (i + 1) (accumulate a (g i)) h in
       let here = term-finite a (g i) (rest .0) in
       (here .0, λ j w. ⊎-elim (λ e. rw (← e) (here .1)) (λ l. rest .1 j (omega arith, omega arith)) (eq-or-lt-of-le (w .0)))
 
-  pub members-finite : (k i : ℕ) → T (finite (turns (sumTurn g) k i nothing-added .s)) → (j : ℕ) → Among i k j → T (finite (g j))
+  pub members-finite : (k i : ℕ) → T (finite (iterate (addAt g) k i nothing-added .s)) → (j : ℕ) → Among i k j → T (finite (g j))
   members-finite k i h = terms-finite k i nothing-added h .1
 
 -- two Sum2 whose terms are the same but for the signs of zeros
 module _ (g h : ℕ → Float) where
-  same-terms : (k i : ℕ) (a : Accumulator) → Stable a → ((j : ℕ) → Among i k j → SameValue (g j) (h j) × T (fits binary64 (h j))) → turns (sumTurn g) k i a ≡ turns (sumTurn h) k i a
-  unfolding turns
+  same-terms : (k i : ℕ) (a : Accumulator) → Stable a → ((j : ℕ) → Among i k j → SameValue (g j) (h j) × T (fits binary64 (h j))) → iterate (addAt g) k i a ≡ iterate (addAt h) k i a
+  unfolding iterate
   same-terms zero i a s e = refl
   same-terms (suc k) i a s e =
       let here = e i (omega arith, omega arith) in
       rw (same-term a (g i) (h i) s (here .0)) (same-terms k (i + 1) (accumulate a (h i)) (stable-term (h i) (here .1) a s) (λ j w. e j (omega arith, omega arith)))
 
-  pub same-members : (k i : ℕ) → ((j : ℕ) → Among i k j → SameValue (g j) (h j) × T (fits binary64 (h j))) → turns (sumTurn g) k i nothing-added ≡ turns (sumTurn h) k i nothing-added
+  pub same-members : (k i : ℕ) → ((j : ℕ) → Among i k j → SameValue (g j) (h j) × T (fits binary64 (h j))) → iterate (addAt g) k i nothing-added ≡ iterate (addAt h) k i nothing-added
   same-members k i e = same-terms k i nothing-added stable-start e
 
   -- the law: the terms from bottom to below end are those of h, and the others are zeros
-  pub sum-members : (bottom end n : ℕ) → bottom ≤ end → end ≤ n → ((j : ℕ) → j < n → (j < bottom) ⊎ (end ≤ j) → IsZero (g j)) → ((j : ℕ) → bottom ≤ j → j < end → (g j ≡ h j) × T (fits binary64 (h j))) → turns (sumTurn g) n 0 nothing-added ≡ turns (sumTurn h) (end - bottom) bottom nothing-added
+  pub sum-members : (bottom end n : ℕ) → bottom ≤ end → end ≤ n → ((j : ℕ) → j < n → (j < bottom) ⊎ (end ≤ j) → IsZero (g j)) → ((j : ℕ) → bottom ≤ j → j < end → (g j ≡ h j) × T (fits binary64 (h j))) → iterate (addAt g) n 0 nothing-added ≡ iterate (addAt h) (end - bottom) bottom nothing-added
   sum-members bottom end n l u out inside =
       let m = end - bottom in
-      let group = turns (sumTurn h) m bottom nothing-added in
+      let group = iterate (addAt h) m bottom nothing-added in
       let all : n ≡ bottom + (m + (n - end)) = omega arith in
       let up : bottom + m ≡ end = omega arith in
-      let below : turns (sumTurn g) bottom 0 nothing-added ≡ nothing-added = zero-terms g bottom 0 nothing-added stable-start (λ j w. out j (omega arith) (inl (omega arith))) in
-      let members : turns (sumTurn g) m bottom nothing-added ≡ group = same-members m bottom (λ j w. let t = inside j (w .0) (omega arith) in (inl (t .0), t .1)) in
+      let below : iterate (addAt g) bottom 0 nothing-added ≡ nothing-added = zero-terms g bottom 0 nothing-added stable-start (λ j w. out j (omega arith) (inl (omega arith))) in
+      let members : iterate (addAt g) m bottom nothing-added ≡ group = same-members m bottom (λ j w. let t = inside j (w .0) (omega arith) in (inl (t .0), t .1)) in
       let stable : Stable group = stable-terms h m bottom nothing-added stable-start (λ j w. inside j (w .0) (omega arith) .1) in
-      let above : turns (sumTurn g) (n - end) end group ≡ group = zero-terms g (n - end) end group stable (λ j w. out j (omega arith) (inr (w .0))) in
-      ap (λ (k : ℕ). turns (sumTurn g) k 0 nothing-added) all
-      ∙ turns-split (sumTurn g) bottom (m + (n - end)) 0 nothing-added
-      ∙ rw (zero-add, below) (turns-split (sumTurn g) m (n - end) bottom nothing-added ∙ rw (up, members) above)
+      let above : iterate (addAt g) (n - end) end group ≡ group = zero-terms g (n - end) end group stable (λ j w. out j (omega arith) (inr (w .0))) in
+      ap (λ (k : ℕ). iterate (addAt g) k 0 nothing-added) all
+      ∙ iterate-split (addAt g) bottom (m + (n - end)) 0 nothing-added
+      ∙ rw (zero-add, below) (iterate-split (addAt g) m (n - end) bottom nothing-added ∙ rw (up, members) above)
 
 -- ---- a Sum2 of one finite term: s is 0 + b, which is b unless that is -0, and nothing is lost
 one-term-at : (t : Bool) (n : ℕ) (g : ℤ) → Settled (fin t n g) → accumulate nothing-added (fin t n g) ≡ record { s = zero-f ⊕ fin t n g; c = zero-f }

@@ -12,6 +12,7 @@ use lib.Ieee.{Float, nan, inf, fin, binary64, unlike, level, fits, eq, up, down,
 use lib.Ieee.Fits.{up-pos, down-pos}
 use lib.Ieee.Scale.{finite}
 use Rattle.numeric.specs.Double.{_⊛_, zero-f}
+use Rattle.numeric.specs.Holds.{both}
 use Rattle.numeric.specs.Zeros.{IsZero, SameValue, signed-zero}
 use Rattle.numeric.proofs.Rounding.{unique}
 use Rattle.numeric.proofs.Zeros.{zero-written, times-zero, zero-times}
@@ -19,10 +20,6 @@ use Rattle.numeric.proofs.Zeros.{zero-written, times-zero, zero-times}
 is-zero : (s : Bool) (m : ℕ) (e : ℤ) (d : ℕ) → 0 < d → T (fits binary64 (fin s m e)) → m * up e * d ≡ 0 → IsZero (fin s m e)
 is-zero s zero e d h p z = (s, zero-written binary64 s e p)
 is-zero s (suc m) e d h p z = absurd (lt-irrefl 0 (subst (λ (x : ℕ). 0 < x) z (mul-pos (mul-pos (zero-lt-suc m) (up-pos e)) h)))
-
-and-true : (a b : Bool) → (a && b) ≡ true → (a ≡ true) × (b ≡ true)
-and-true true b h = (refl, h)
-and-true false b h = absurd (true≢false (sym h))
 
 module _ (m : ℕ) (e : ℤ) (n : ℕ) (g : ℤ) (h : m * up e * down g ≡ n * up g * down e) where
   one-sign : (s : Bool) → T (fits binary64 (fin s m e)) → T (fits binary64 (fin s n g)) → fin s m e ≡ fin s n g
@@ -52,7 +49,7 @@ equal-same (inf s) (fin t n g) a b h = absurd (true≢false (sym h))
 equal-same (fin s m e) nan a b h = absurd (true≢false (sym h))
 equal-same (fin s m e) (inf t) a b h = absurd (true≢false (sym h))
 equal-same (fin s m e) (fin t n g) a b h =
-    let both = and-true (eqb (m * up e * down g) (n * up g * down e)) (Bool·beq s t || eqb (m * up e * down g) 0) h in
+    let both = both (eqb (m * up e * down g) (n * up g * down e)) (Bool·beq s t || eqb (m * up e * down g) 0) h in
     signs m e n g (eqb-true (m * up e * down g) (n * up g * down e) (both .0)) s t a b (both .1)
 
 -- `==` looks at its two sides alike

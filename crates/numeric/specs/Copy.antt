@@ -12,5 +12,6 @@ module _ {A : Type 0} where
   abbrev pub copied : ℕ → List A → List A → List A
   copied k source target = take k source ++ drop k target
 
-  pub copied-turn : (d : A) (k : ℕ) (source target : List A) → k < length source → k < length target → set (copied k source target) k (getD source k d) ≡ copied (k + 1) source target
-  copied-turn d k source target s t = rw add-one (simp zero-add at (paste-suc target 0 source k d (rw zero-add t) s))
+  pub copied-next : (d : A) (k : ℕ) (source target : List A) → k < length source → k < length target
+      → set (copied k source target) k (getD source k d) ≡ copied (k + 1) source target
+  copied-next d k source target s t = rw add-one (simp zero-add at (paste-suc target 0 source k d (rw zero-add t) s))

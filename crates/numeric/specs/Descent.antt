@@ -28,8 +28,8 @@ module _ {S : Type 0} (stop : ℕ → S → Bool) (f : ℕ → S → S) where
   step zero s h = absurd (omega arith)
   step (suc i) s h = rw sub-one
 
-  pub descent-turn : (n : ℕ) (s₀ : S) (i : ℕ) (s : S) → 0 < i → stop (i - 1) s ≡ false → Descent n s₀ i s → Descent n s₀ (i - 1) (f (i - 1) s)
-  descent-turn n s₀ i s h t r = (omega arith, (rw t at (sym (step i s h))) ∙ r .1)
+  pub descent-next : (n : ℕ) (s₀ : S) (i : ℕ) (s : S) → 0 < i → stop (i - 1) s ≡ false → Descent n s₀ i s → Descent n s₀ (i - 1) (f (i - 1) s)
+  descent-next n s₀ i s h t r = (omega arith, (rw t at (sym (step i s h))) ∙ r .1)
 
   pub descent-stop : (n : ℕ) (s₀ : S) (i : ℕ) (s : S) → 0 < i → stop (i - 1) s ≡ true → Descent n s₀ i s → s ≡ descend n s₀
   descent-stop n s₀ i s h t r = (rw t at (sym (step i s h))) ∙ r .1

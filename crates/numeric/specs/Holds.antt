@@ -7,9 +7,10 @@ use mathlib.Core.Logic.{⊎-elim}
 use mathlib.Core.Path.{_≡_, refl, sym}
 use mathlib.Core.Bool.{Bool, true, false, _&&_, true≢false}
 
-and-true : (a b : Bool) → (a && b) ≡ true → (a ≡ true) × (b ≡ true)
-and-true true b h = (refl, h)
-and-true false b h = absurd (true≢false (sym h))
+-- two tests that hold together
+pub both : (a b : Bool) → (a && b) ≡ true → (a ≡ true) × (b ≡ true)
+both true b h = (refl, h)
+both false b h = absurd (true≢false (sym h))
 
 regroup : (a b c : Bool) → (a && (b && c)) ≡ (a && b && c)
 regroup true b c = refl
@@ -33,8 +34,8 @@ module _ (p : ℕ → Bool) where
       let e : n - i ≡ suc (n - (i + 1)) = omega arith in
       rw e at (r .1)
 
-  pub passed-turn : (n i : ℕ) → i < n → p i ≡ true → Passed n i → Passed n (i + 1)
-  passed-turn n i h t r = (omega arith, rw t at (next n i h r))
+  pub passed-next : (n i : ℕ) → i < n → p i ≡ true → Passed n i → Passed n (i + 1)
+  passed-next n i h t r = (omega arith, rw t at (next n i h r))
 
   pub passed-fails : (n i : ℕ) → i < n → p i ≡ false → Passed n i → false ≡ holds n 0
   passed-fails n i h t r = rw t at (next n i h r)
@@ -50,7 +51,7 @@ module _ (p : ℕ → Bool) where
   unfolding holds
   holds-at zero i h j l u = absurd (omega arith)
   holds-at (suc k) i h j l u =
-      let both = and-true (p i) (holds k (i + 1)) h in
+      let both = both (p i) (holds k (i + 1)) h in
       ⊎-elim (λ e. rw (← e) (both .0)) (λ lt. holds-at k (i + 1) (both .1) j (omega arith) (omega arith)) (eq-or-lt-of-le l)
 
   pub at-holds : (k i : ℕ) → ((j : ℕ) → i ≤ j → j < i + k → p j ≡ true) → holds k i ≡ true

@@ -3,7 +3,7 @@ pub mod Double
 pub mod Zeros
 pub mod Compare
 pub mod Close
-pub mod Turns
+pub mod Iterate
 pub mod Holds
 pub mod Copy
 pub mod Tabulate

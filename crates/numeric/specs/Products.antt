@@ -1,5 +1,5 @@
--- Proves what demand 3 rests on of doubles (01, Arithmetic underneath): `min_of_2` is at most its second where that is a number; and a finite number that is not
--- negative, times one that is finite and above zero, is a number, and a zero where it is not above zero.
+-- Proves what demand 3 rests on of doubles (01, Arithmetic underneath): `min_of_2` is at most its second where that is a number; and a finite number that is
+-- not negative, times one that is finite and above zero, is a number, and a zero where it is not above zero.
 use mathlib.Core.Path.{_≡_, refl, sym, _∙_}
 use mathlib.Core.Bool.{Bool, true, false, not, _&&_, _||_, Bool·beq, cond}
 use Prim.Native.Nat.{ℕ, zero, suc, _+_, _*_, _<_, _^_}
@@ -54,8 +54,10 @@ unfolding le isNan
 le-self nan n = absurd n
 le-self (inf true) n = tt
 le-self (inf false) n = tt
-le-self (fin true m e) n = or-right (ltb (m * up e * down e) (m * up e * down e)) _ (and-i (eqb (m * up e * down e) (m * up e * down e)) true (eqb-refl (m * up e * down e)) tt)
-le-self (fin false m e) n = or-right (ltb (m * up e * down e) (m * up e * down e)) _ (and-i (eqb (m * up e * down e) (m * up e * down e)) true (eqb-refl (m * up e * down e)) tt)
+le-self (fin true m e) n =
+    or-right (ltb (m * up e * down e) (m * up e * down e)) _ (and-i (eqb (m * up e * down e) (m * up e * down e)) true (eqb-refl (m * up e * down e)) tt)
+le-self (fin false m e) n =
+    or-right (ltb (m * up e * down e) (m * up e * down e)) _ (and-i (eqb (m * up e * down e) (m * up e * down e)) true (eqb-refl (m * up e * down e)) tt)
 
 pub min-le-second : (a b : Float) → T (not (isNan b)) → T (le (minOf2 a b) b)
 unfolding minOf2
@@ -76,18 +78,19 @@ zero-flat s m e h =
     and-i (eqb (m * up e * 1) (0 * 1 * down e)) (Bool·beq s false || eqb (m * up e * 1) 0) (eqb-of (m * up e * 1) (0 * 1 * down e) (omega arith))
     (or-right (Bool·beq s false) (eqb (m * up e * 1) 0) (eqb-of (m * up e * 1) 0 (omega arith)))
 
-eq-turned : (x : Float) → T (eq zero-f x) → T (eq x zero-f)
+eq-swapped : (x : Float) → T (eq zero-f x) → T (eq x zero-f)
 unfolding eq ofBits
-eq-turned nan t = absurd t
-eq-turned (inf s) t = absurd t
-eq-turned (fin s m e) t = zero-flat s m e (flat (eqb→eq (0 * 1 * down e) (m * up e * 1) (and-l (eqb (0 * 1 * down e) (m * up e * 1)) (Bool·beq false s || eqb (0 * 1 * down e) 0) t)))
+eq-swapped nan t = absurd t
+eq-swapped (inf s) t = absurd t
+eq-swapped (fin s m e) t =
+    zero-flat s m e (flat (eqb→eq (0 * 1 * down e) (m * up e * 1) (and-l (eqb (0 * 1 * down e) (m * up e * 1)) (Bool·beq false s || eqb (0 * 1 * down e) 0) t)))
   where
     flat : 0 * 1 * down e ≡ m * up e * 1 → m * up e ≡ 0
     flat h = omega arith
 
 zero-between : (x : Float) → T (le zero-f x) → T (not (lt zero-f x)) → T (eq x zero-f)
 unfolding le
-zero-between x h n = eq-turned x (or-other (lt zero-f x) (eq zero-f x) h n)
+zero-between x h n = eq-swapped x (or-other (lt zero-f x) (eq zero-f x) h n)
 
 zero-rounded : round binary64 false 0 1 ≡ zero-f
 unfolding round ofBits
@@ -109,7 +112,9 @@ value-zero (inf t) s c C h = absurd h
 value-zero (fin t m e) s c C h = zero-flat t m e (first-zero (m * up e) c C (h .1 ∙ zero-mul (down e)))
 
 minus-zero : (c : ℕ) → 0 < c → T (eq (round binary64 true 0 c) zero-f)
-minus-zero c C = value-zero (round binary64 true 0 c) true c C (round-exact binary64 true 0 c 0 0 C (pow-pos 53) (pow-pos 2098) (zero-mul (2 ^ low binary64) ∙ sym (zero-mul c)))
+minus-zero c C =
+    value-zero (round binary64 true 0 c) true c C
+    (round-exact binary64 true 0 c 0 0 C (pow-pos 53) (pow-pos 2098) (zero-mul (2 ^ low binary64) ∙ sym (zero-mul c)))
 
 -- ---- products
 

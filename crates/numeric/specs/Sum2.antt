@@ -5,7 +5,7 @@ use Prim.Native.Nat.{ℕ, zero, suc, _+_}
 use lib.Ieee.{Float}
 use Rattle.numeric.specs.declared.sum2.Accumulator.{Accumulator}
 use Rattle.numeric.specs.Double.{_⊕_, _⊖_, zero-f}
-use Rattle.numeric.specs.Turns.{turns}
+use Rattle.numeric.specs.Iterate.{iterate}
 use Rattle.numeric.specs.Tabulate.{tabulate}
 
 -- s and c start at 0
@@ -30,16 +30,16 @@ total a = a .s ⊕ a .c
 unfoldable pub sum2 : List Float → Float
 sum2 bs = total (accumulateAll bs nothing-added)
 
--- a turn of the loop that adds the term g i
-abbrev pub sumTurn : (ℕ → Float) → ℕ → Accumulator → Accumulator
-sumTurn g i a = accumulate a (g i)
+-- one pass of the loop that adds the term g i
+abbrev pub addAt : (ℕ → Float) → ℕ → Accumulator → Accumulator
+addAt g i a = accumulate a (g i)
 
 module _ (g : ℕ → Float) where
-  pub accumulate-turns : (k i : ℕ) (a : Accumulator) → accumulateAll (tabulate g k i) a ≡ turns (sumTurn g) k i a
-  unfolding tabulate accumulateAll turns
-  accumulate-turns zero i a = refl
-  accumulate-turns (suc k) i a = accumulate-turns k (i + 1) (accumulate a (g i))
+  pub accumulate-iterate : (k i : ℕ) (a : Accumulator) → accumulateAll (tabulate g k i) a ≡ iterate (addAt g) k i a
+  unfolding tabulate accumulateAll iterate
+  accumulate-iterate zero i a = refl
+  accumulate-iterate (suc k) i a = accumulate-iterate k (i + 1) (accumulate a (g i))
 
-  pub sum2-turns : (n : ℕ) → sum2 (tabulate g n 0) ≡ total (turns (sumTurn g) n 0 nothing-added)
+  pub sum2-iterate : (n : ℕ) → sum2 (tabulate g n 0) ≡ total (iterate (addAt g) n 0 nothing-added)
   unfolding sum2
-  sum2-turns n = rw accumulate-turns
+  sum2-iterate n = rw accumulate-iterate

@@ -76,7 +76,7 @@ fn next_size() -> usize {
     if got < 4 {
         return MAX_BYTES + 1;
     }
-    job_reader::bytes::u32_at(&head, 0) as usize
+    job_records::bytes::u32_at(&head, 0) as usize
 }
 
 fn ended(t: Tally) -> Tally {
@@ -129,9 +129,9 @@ fn main() {
         differ: 0,
         ended: false,
     };
-    let mut turns = MAX_BYTES;
-    while 0 < turns {
-        turns -= 1;
+    let mut records = MAX_BYTES;
+    while 0 < records {
+        records -= 1;
         if !t.ended {
             t = next_case(t);
         }

@@ -19,9 +19,9 @@ use Rattle.storage_tank.specs.declared.Stepped.{Stepped}
 use Rattle.storage_tank.specs.Calls.{stepped}
 use Rattle.storage_tank.specs.Answers.{acceptedStep}
 use Rattle.storage_tank.proofs.Calls.{refused-step}
-use Rattle.shim.specs.Flags.{bytesOf}
-use Rattle.shim.specs.Tanks.{tankIn, TankHeld}
-use Rattle.shim.specs.Reports.{reportIn, totalsOf, figuresOf, lineFlagsOf, roundsOf, ReportHeld}
+use Rattle.lent_tank.specs.Flags.{bytesOf}
+use Rattle.lent_tank.specs.Tanks.{tankIn, TankHeld}
+use Rattle.lent_tank.specs.Reports.{reportIn, totalsOf, figuresOf, lineFlagsOf, roundsOf, ReportHeld}
 use Rattle.shim.specs.Answers.{bytesLeft, StepLeft}
 
 -- ---- arrays of the lent lengths hold the tank and the report that are read from them

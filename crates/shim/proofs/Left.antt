@@ -14,7 +14,8 @@ use Rattle.tank_model.specs.declared.Step.{Step}
 use Rattle.tank_model.specs.declared.TankDesign.{TankDesign}
 use Rattle.tank_model.specs.Fixed.{fixedOf}
 use Rattle.tank_model.specs.Checks.{makeRefusal}
-use Rattle.tank_model.specs.Work.{End, refused, done, work}
+use Rattle.tank_model.specs.Run.{End, refused, done}
+use Rattle.tank_model.specs.Work.{Outcome, work}
 use Rattle.tank_arrays.specs.Arrays.{heaterIn, fittedIn, heatersOf, thermostatsOf, linesIn}
 use Rattle.tank_arrays.proofs.LentArrays.{places, heaters-back}
 use Rattle.storage_tank.specs.declared.StorageTank.{StorageTank}
@@ -22,11 +23,11 @@ use Rattle.storage_tank.specs.declared.Report.{Report}
 use Rattle.storage_tank.specs.Tank.{fixedIn, stateIn}
 use Rattle.storage_tank.specs.Calls.{fittedHeaters, madeOf, made, answer, stepped}
 use Rattle.storage_tank.proofs.Calls.{refused-step}
-use Rattle.shim.specs.Flags.{flagIn, flagsIn, bytesOf, ZeroOrOne}
-use Rattle.shim.specs.Tanks.{tankIn, TankHeld, TankWritten}
-use Rattle.shim.specs.Reports.{reportIn, lineFlagsOf, ReportHeld}
+use Rattle.lent_tank.specs.Flags.{flagIn, flagsIn, bytesOf, ZeroOrOne}
+use Rattle.lent_tank.specs.Tanks.{tankIn, TankHeld, TankWritten}
+use Rattle.lent_tank.specs.Reports.{reportIn, lineFlagsOf, ReportHeld}
 use Rattle.shim.specs.Answers.{bytesLeft, MakeAnswered, StepLeft, StepAnswered}
-use Rattle.shim.proofs.Bytes.{flags-back, bytes-back}
+use Rattle.lent_tank.proofs.Bytes.{flags-back, bytes-back}
 use Rattle.shim.proofs.Kept.{tank-held-as-lent, report-held-as-lent, Kept}
 
 -- ---- 8 flags read in their array, and the heaters with them
@@ -69,7 +70,7 @@ fitted-kept : (t : StorageTank) (r : Report) (a : Step) → stepped t r a .tank 
 unfolding stepped answer
 fitted-kept t r a = go (work (fixedIn t) (stateIn t) a .end)
   where
-    go : (e : End) → answer t r e .tank .fitted ≡ t .fitted
+    go : (e : End Outcome) → answer t r e .tank .fitted ≡ t .fitted
     go (refused n) = refl
     go (done s) = refl
 

@@ -1,3 +1,3 @@
-pub mod Bytes
+-- What an exported call leaves of what was lent.
 pub mod Kept
 pub mod Left

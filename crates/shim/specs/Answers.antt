@@ -7,9 +7,9 @@ use mathlib.Core.List.{List}
 use lib.Ieee.{Float}
 use Rattle.storage_tank.specs.declared.Made.{Made}
 use Rattle.storage_tank.specs.declared.Stepped.{Stepped}
-use Rattle.shim.specs.Flags.{bytesOf}
-use Rattle.shim.specs.Tanks.{TankHeld, TankWritten}
-use Rattle.shim.specs.Reports.{lineFlagsOf, ReportHeld, ReportWritten}
+use Rattle.lent_tank.specs.Flags.{bytesOf}
+use Rattle.lent_tank.specs.Tanks.{TankHeld, TankWritten}
+use Rattle.lent_tank.specs.Reports.{lineFlagsOf, ReportHeld, ReportWritten}
 
 -- ---- all that the call hands back is written: every byte after it is 0 or 1, refused or not
 
@@ -17,7 +17,11 @@ pub record MakeAnswered (a : Made) (number : ℕ) (counts : List ℕ) (numbers t
   pub number-is : number ≡ a .number
   pub tank-written : TankWritten (a .tank) counts numbers temps heaters thermostats flags
 
-pub record StepAnswered (s : Stepped) (number : ℕ) (counts : List ℕ) (numbers temps heaters : List Float) (thermostats flags : List ℕ) (totals figures : List Float) (lineFlags rounds : List ℕ) : Type 0 where
+pub record StepAnswered
+    (s : Stepped) (number : ℕ)
+    (counts : List ℕ) (numbers temps heaters : List Float) (thermostats flags : List ℕ)
+    (totals figures : List Float) (lineFlags rounds : List ℕ)
+    : Type 0 where
   pub number-is : number ≡ s .number
   pub tank-written : TankWritten (s .tank) counts numbers temps heaters thermostats flags
   pub report-written : ReportWritten (s .report) totals figures lineFlags rounds
@@ -30,7 +34,11 @@ bytesLeft zero lent flags = bytesOf flags
 bytesLeft (suc number) lent flags = lent
 
 -- the numbers are those of the answer's tank and report; of the bytes lent the thermostats' stay whatever they are, and the flags' where the step is refused
-pub record StepLeft (s : Stepped) (thermostats flags lineFlags : List ℕ) (number : ℕ) (counts' : List ℕ) (numbers' temps' heaters' : List Float) (thermostats' flags' : List ℕ) (totals' figures' : List Float) (lineFlags' rounds' : List ℕ) : Type 0 where
+pub record StepLeft
+    (s : Stepped) (thermostats flags lineFlags : List ℕ) (number : ℕ)
+    (counts' : List ℕ) (numbers' temps' heaters' : List Float) (thermostats' flags' : List ℕ)
+    (totals' figures' : List Float) (lineFlags' rounds' : List ℕ)
+    : Type 0 where
   pub number-is : number ≡ s .number
   pub tank-held : TankHeld (s .tank) counts' numbers' temps' heaters'
   pub thermostats-kept : thermostats' ≡ thermostats

@@ -1,5 +1,2 @@
-pub mod Flags
-pub mod Tanks
-pub mod Reports
-pub mod Steps
+-- What the exported calls answer and leave in the arrays lent.
 pub mod Answers

@@ -4,12 +4,12 @@ ghost use mathlib.Core.Path.{_≡_};
 ghost use mathlib.Core.List.{[], _∷_};
 ghost use Rattle.mixing.specs.Mix.{mixNumber, mixRounds, mixLayers, numberOf, roundsOf};
 ghost use Rattle.storage_tank.specs.Calls.{made, stepped};
-ghost use Rattle.shim.specs.Tanks.{designIn, tankIn, TankWritten};
-ghost use Rattle.shim.specs.Reports.{reportIn, ReportWritten};
-ghost use Rattle.shim.specs.Steps.{stepIn};
+ghost use Rattle.lent_tank.specs.Tanks.{designIn, tankIn, TankWritten};
+ghost use Rattle.lent_tank.specs.Reports.{reportIn, ReportWritten};
+ghost use Rattle.lent_tank.specs.Steps.{stepIn};
 ghost use Rattle.shim.specs.Answers.{MakeAnswered, StepAnswered, StepLeft};
 use cylinder::Cylinder;
-use draw_off::event::MAX_EVENTS;
+use draw_events::event::MAX_EVENTS;
 use mixing::MixAnswer;
 use mixing::limits::MAX_LAYERS;
 use step_work::work::WorkAnswer;
@@ -51,7 +51,7 @@ pub extern "C" fn huszmago_mix(layers: &mut [f64], layer_volume: f64, rounds: &m
     ensures leaves { λ r. ⌜ now (layers .exit) ≡ mixLayers (now (layers .entry)) «layer_volume» ⌝ }
     ensures runs { λ r. ⌜ now (rounds .exit) ≡ mixRounds (now (layers .entry)) «layer_volume» ∷ [] ⌝ }
 {
-    let a = mixing::mix::mix(layers, layer_volume);
+    let a = rearrange::mix::mix(layers, layer_volume);
     let n = rounds_of(a);
     *rounds = [n];
     number_of(a)
@@ -66,11 +66,12 @@ fn put_tank(
     thermostats: &mut [u8; MAX_HEATERS],
     flags: &mut [u8; MAX_HEATERS],
 )
-    ensures { λ r. ⌜ TankWritten t (now (counts .exit)) (now (numbers .exit)) (now (temps .exit)) (now (heaters .exit)) (now (thermostats .exit)) (now (flags .exit)) ⌝ }
+    ensures { λ r. ⌜ TankWritten t
+        (now (counts .exit)) (now (numbers .exit)) (now (temps .exit)) (now (heaters .exit)) (now (thermostats .exit)) (now (flags .exit)) ⌝ }
 {
-    let c = crate::tanks::counts_of(t);
+    let c = lent_tank::tanks::counts_of(t);
     *counts = c;
-    let n = crate::tanks::numbers_of(t);
+    let n = lent_tank::tanks::numbers_of(t);
     *numbers = n;
     let layers = t.temps;
     *temps = layers;
@@ -78,9 +79,9 @@ fn put_tank(
     let h = tank_arrays::arrays::heaters_of(fitted);
     *heaters = h;
     let b = tank_arrays::arrays::thermostats_of(fitted);
-    *thermostats = crate::flags::bytes_of(b);
+    *thermostats = lent_tank::flags::bytes_of(b);
     let f = t.flags;
-    *flags = crate::flags::bytes_of(f);
+    *flags = lent_tank::flags::bytes_of(f);
 }
 
 fn put_report(
@@ -92,14 +93,14 @@ fn put_report(
 )
     ensures { λ u. ⌜ ReportWritten r (now (totals .exit)) (now (figures .exit)) (now (flags .exit)) (now (rounds .exit)) ⌝ }
 {
-    let t = crate::reports::totals_of(r);
+    let t = lent_tank::reports::totals_of(r);
     *totals = t;
     let lines = r.lines;
-    let x = crate::reports::figures_of(lines);
+    let x = lent_tank::reports::figures_of(lines);
     *figures = x;
-    let reported = crate::reports::line_flags_of(lines);
-    *flags = crate::flags::bytes_of(reported);
-    let n = crate::reports::rounds_of(lines);
+    let reported = lent_tank::reports::line_flags_of(lines);
+    *flags = lent_tank::flags::bytes_of(reported);
+    let n = lent_tank::reports::rounds_of(lines);
     *rounds = n;
 }
 
@@ -123,13 +124,16 @@ pub extern "C" fn huszmago_make(
     thermostats: &mut [u8; MAX_HEATERS],
     flags: &mut [u8; MAX_HEATERS],
 ) -> u8
-    ensures { λ r. ⌜ MakeAnswered (made (designIn (now (counts .entry)) (now (numbers .entry)) initial (now (heaters .entry)) (now (thermostats .entry)))) r (now (counts .exit)) (now (numbers .exit)) (now (temps .exit)) (now (heaters .exit)) (now (thermostats .exit)) (now (flags .exit)) ⌝ }
+    ensures { λ r. ⌜ MakeAnswered
+        (made (designIn (now (counts .entry)) (now (numbers .entry)) initial (now (heaters .entry)) (now (thermostats .entry))))
+        r
+        (now (counts .exit)) (now (numbers .exit)) (now (temps .exit)) (now (heaters .exit)) (now (thermostats .exit)) (now (flags .exit)) ⌝ }
 {
     let c = *counts;
     let n = *numbers;
     let h = *heaters;
     let b = *thermostats;
-    let a = StorageTank::new(crate::tanks::design_in(c, n, initial, h, b));
+    let a = StorageTank::new(lent_tank::tanks::design_in(c, n, initial, h, b));
     let t = a.tank;
     put_tank(t, counts, numbers, temps, heaters, thermostats, flags);
     a.number
@@ -155,9 +159,17 @@ pub extern "C" fn huszmago_step(
     present: &[u8; 16],
     points: &[f64; 16],
 ) -> u8
-    ensures { λ r. ⌜ StepLeft (stepped (tankIn (now (counts .entry)) (now (numbers .entry)) (now (temps .entry)) (now (heaters .entry)) (now (thermostats .entry)) (now (flags .entry))) (reportIn (now (totals .entry)) (now (figures .entry)) (now («line_flags» .entry)) (now (rounds .entry))) (stepIn feed (now (asked .entry)) (now (volumes .entry)) (now (present .entry)) (now (points .entry)))) (now (thermostats .entry)) (now (flags .entry)) (now («line_flags» .entry)) r (now (counts .exit)) (now (numbers .exit)) (now (temps .exit)) (now (heaters .exit)) (now (thermostats .exit)) (now (flags .exit)) (now (totals .exit)) (now (figures .exit)) (now («line_flags» .exit)) (now (rounds .exit)) ⌝ }
+    ensures { λ r. ⌜ StepLeft
+        (stepped
+        (tankIn (now (counts .entry)) (now (numbers .entry)) (now (temps .entry)) (now (heaters .entry)) (now (thermostats .entry)) (now (flags .entry)))
+        (reportIn (now (totals .entry)) (now (figures .entry)) (now («line_flags» .entry)) (now (rounds .entry)))
+        (stepIn feed (now (asked .entry)) (now (volumes .entry)) (now (present .entry)) (now (points .entry))))
+        (now (thermostats .entry)) (now (flags .entry)) (now («line_flags» .entry))
+        r
+        (now (counts .exit)) (now (numbers .exit)) (now (temps .exit)) (now (heaters .exit)) (now (thermostats .exit)) (now (flags .exit))
+        (now (totals .exit)) (now (figures .exit)) (now («line_flags» .exit)) (now (rounds .exit)) ⌝ }
 {
-    crate::lengths::lengths_told(*counts, *numbers, *heaters, *totals, *figures, *rounds);
+    lent_tank::lengths::lengths_told(*counts, *numbers, *heaters, *totals, *figures, *rounds);
     let c = Cylinder {
         layers: counts[0],
         volume: numbers[0],
@@ -167,10 +179,10 @@ pub extern "C" fn huszmago_step(
         ambient: numbers[4],
         timestep: numbers[5],
     };
-    let has_thermostat = crate::flags::flags_in(*thermostats);
-    let there = crate::flags::present_in(*present);
+    let has_thermostat = lent_tank::flags::flags_in(*thermostats);
+    let there = lent_tank::flags::present_in(*present);
     let mut after = *temps;
-    let mut on = crate::flags::flags_in(*flags);
+    let mut on = lent_tank::flags::flags_in(*flags);
     let mut x = [0.0; THREE_EACH];
     let mut g = [false; MAX_HEATERS];
     let mut k = [0; MAX_HEATERS];
@@ -195,16 +207,16 @@ pub extern "C" fn huszmago_step(
         return w.number;
     }
     *temps = after;
-    *flags = crate::flags::bytes_of(on);
+    *flags = lent_tank::flags::bytes_of(on);
     *totals = totals_of(w);
     *figures = x;
-    *line_flags = crate::flags::bytes_of(g);
+    *line_flags = lent_tank::flags::bytes_of(g);
     *rounds = k;
     0
 }
 
-// The same through the method: a tank, a report and a step are made of what is lent and passed by value, and what the call hands back is written in all ten arrays,
-// refused or not. So every byte of a flag is 0 or 1 after it, whatever was lent.
+// The same through the method: a tank, a report and a step are made of what is lent and passed by value, and what the call hands back is written in all ten
+// arrays, refused or not. So every byte of a flag is 0 or 1 after it, whatever was lent.
 #[no_mangle]
 pub extern "C" fn huszmago_demand_hot_water(
     counts: &mut [usize; 2],
@@ -223,7 +235,14 @@ pub extern "C" fn huszmago_demand_hot_water(
     present: &[u8; 16],
     points: &[f64; 16],
 ) -> u8
-    ensures { λ r. ⌜ StepAnswered (stepped (tankIn (now (counts .entry)) (now (numbers .entry)) (now (temps .entry)) (now (heaters .entry)) (now (thermostats .entry)) (now (flags .entry))) (reportIn (now (totals .entry)) (now (figures .entry)) (now («line_flags» .entry)) (now (rounds .entry))) (stepIn feed (now (asked .entry)) (now (volumes .entry)) (now (present .entry)) (now (points .entry)))) r (now (counts .exit)) (now (numbers .exit)) (now (temps .exit)) (now (heaters .exit)) (now (thermostats .exit)) (now (flags .exit)) (now (totals .exit)) (now (figures .exit)) (now («line_flags» .exit)) (now (rounds .exit)) ⌝ }
+    ensures { λ r. ⌜ StepAnswered
+        (stepped
+        (tankIn (now (counts .entry)) (now (numbers .entry)) (now (temps .entry)) (now (heaters .entry)) (now (thermostats .entry)) (now (flags .entry)))
+        (reportIn (now (totals .entry)) (now (figures .entry)) (now («line_flags» .entry)) (now (rounds .entry)))
+        (stepIn feed (now (asked .entry)) (now (volumes .entry)) (now (present .entry)) (now (points .entry))))
+        r
+        (now (counts .exit)) (now (numbers .exit)) (now (temps .exit)) (now (heaters .exit)) (now (thermostats .exit)) (now (flags .exit))
+        (now (totals .exit)) (now (figures .exit)) (now («line_flags» .exit)) (now (rounds .exit)) ⌝ }
 {
     let c = *counts;
     let n = *numbers;
@@ -231,15 +250,15 @@ pub extern "C" fn huszmago_demand_hot_water(
     let h = *heaters;
     let b = *thermostats;
     let f = *flags;
-    let t = crate::tanks::tank_in(c, n, layers, h, b, f);
+    let t = lent_tank::tanks::tank_in(c, n, layers, h, b, f);
     let four = *totals;
     let x = *figures;
     let g = *line_flags;
     let k = *rounds;
-    let r = crate::reports::report_in(four, x, g, k);
+    let r = lent_tank::reports::report_in(four, x, g, k);
     let e = *asked;
     let v = *volumes;
-    let s = t.demand_hot_water(r, crate::steps::step_in(feed, e, v, present, points));
+    let s = t.demand_hot_water(r, lent_tank::steps::step_in(feed, e, v, present, points));
     let tank = s.tank;
     put_tank(tank, counts, numbers, temps, heaters, thermostats, flags);
     let report = s.report;

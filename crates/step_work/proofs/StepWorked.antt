@@ -10,41 +10,57 @@ use Rattle.numeric.specs.Double.{dbl, _⊛_, _⊘_, zero-f}
 use Rattle.numeric.specs.Close.{wideClose}
 use Rattle.mixing.specs.Limits.{maxLayers}
 use Rattle.cylinder.specs.declared.Cylinder.{Cylinder}
-use Rattle.draw_off.specs.declared.Totals.{Totals}
-use Rattle.draw_off.specs.declared.event.EventAnswer.{EventAnswer}
-use Rattle.draw_off.specs.Lent.{drawingOf}
-use Rattle.draw_off.specs.Event.{Event, Drawing, drawAll}
+use Rattle.draw_off.specs.declared.cold.Feed.{Feed}
+use Rattle.draw_events.specs.declared.event.EventAnswer.{EventAnswer}
+use Rattle.draw_events.specs.Lent.{drawingOf}
+use Rattle.draw_events.specs.Event.{Event, Drawing, eventOf, tempsAfterEvent, totalsAfterEvent, eventNumber, drawAll}
 use Rattle.tank_model.specs.declared.HeaterLine.{HeaterLine}
 use Rattle.tank_model.specs.declared.Step.{Step}
 use Rattle.tank_model.specs.Fixed.{Fixed, State}
 use Rattle.tank_model.specs.Order.{workingOrder}
 use Rattle.tank_model.specs.Checks.{stepRefusal}
-use Rattle.tank_model.specs.Work.{Progress, Turn, End, refused, done, resume, andThen, endBy, withDraw, events, wantedVolumes, averageOf, withAverage, turnOf, heaterTurn, turns, allTurns, opening, recoverable, closed, begin, work}
+use Rattle.tank_model.specs.Run.{End, refused, done, endBy, first, run}
+use Rattle.tank_model.specs.Work.{DrawOff, Outcome, workEvent, feedIn, wantedVolumes, events, averageOf, Heating, unheated, turns, recoverable, close, thenTurns, begin, work}
 use Rattle.tank_arrays.specs.Arrays.{ZeroLines}
 use Rattle.tank_arrays.proofs.LentArrays.{zero-lines}
 use Rattle.step_work.specs.declared.work.WorkAnswer.{WorkAnswer}
-use Rattle.step_work.specs.Lent.{Heated, settingsOnly, noTurns, heatedIn, unheated, progressOf, noTotals, StepWorked}
+use Rattle.step_work.specs.Lent.{heatingIn, noTurns, noTotals, TurnsWorked, StepWorked}
 
--- where the events, which came to d, leave the step
-abbrev drawnEnd : Drawing → Progress → End
-drawnEnd d s = endBy (d .number) (withDraw (d .temps) (d .totals) s)
+-- ---- the events in a row, as `draw_events` works them, are the run of the events
 
--- ---- the turns look at the settings alone
+-- where they came to
+abbrev pub drawnAt : Drawing → DrawOff
+drawnAt d = record { temps = d .temps; totals = d .totals }
 
-turns-settings : (f : Fixed) (a : Step) (hs : List ℕ) (s : Progress) → turns f a hs s .end ≡ turns f (settingsOnly (a .settings)) hs s .end
-unfolding turns andThen heaterTurn turnOf
-turns-settings f a [] s = refl
-turns-settings f a (h ∷ hs) s = go _ _ (λ s'. turns-settings f a hs s')
+pub events-run : (f : Fixed) (feed : Feed) (vs : List Float) (s : DrawOff)
+    → let d = drawAll (f .cylinder) (f .vol) feed vs 0 (s .temps) (s .totals) .end in
+    run (workEvent f feed) vs s .end ≡ endBy (d .number) (drawnAt d)
+unfolding run workEvent drawAll
+events-run f feed [] s = unfold endBy in refl
+events-run f feed (v ∷ vs) s = go (eventNumber (f .cylinder) e (s .totals)) (events-run f feed vs s')
   where
-    go : (us : List Turn) (e : End) → ((s' : Progress) → turns f a hs s' .end ≡ turns f (settingsOnly (a .settings)) hs s' .end)
-        → resume [] us e (λ s'. turns f a hs s') .end ≡ resume [] us e (λ s'. turns f (settingsOnly (a .settings)) hs s') .end
-    go us (refused n) ih = unfold resume in refl
-    go us (done s') ih = unfold resume in (ih s')
+    e : Event
+    e = eventOf (f .cylinder) (f .vol) feed v (s .temps) (s .totals)
+
+    s' : DrawOff
+    s' = record { temps = tempsAfterEvent e; totals = totalsAfterEvent (f .cylinder) e (s .totals) }
+
+    rest : ℕ → Drawing
+    rest n = drawAll (f .cylinder) (f .vol) feed vs n (s' .temps) (s' .totals) .end
+
+    stopped : (xs : List Float) (n : ℕ) → drawAll (f .cylinder) (f .vol) feed xs (suc n) (s' .temps) (s' .totals) .end .number ≡ suc n
+    stopped [] n = unfold drawAll in refl
+    stopped (x ∷ xs) n = unfold drawAll in refl
+
+    go : (n : ℕ) → run (workEvent f feed) vs s' .end ≡ endBy (rest 0 .number) (drawnAt (rest 0)) → first e n (run (workEvent f feed) vs s') .end ≡ endBy (rest n .number) (drawnAt (rest n))
+    go zero q = unfold first in q
+    go (suc n) q = unfold first in (rw (stopped vs n) (unfold endBy in refl))
 
 -- ---- arrays of zeros hold the lines before the first turn
 
-pub zeros-unheated : (on : List Bool) (xs : List Float) (bs : List Bool) (ns : List ℕ) → ZeroLines xs bs ns → heatedIn noTurns on xs bs ns ≡ unheated on
-zeros-unheated on xs bs ns z = rw (z .figures-zero, z .flags-zero, z .rounds-zero, zero-lines)
+pub zeros-unheated : (temps : List Float) (on : List Bool) (xs : List Float) (bs : List Bool) (ns : List ℕ) → ZeroLines xs bs ns
+    → heatingIn temps (replicate maxLayers zero-f) on noTurns xs bs ns ≡ unheated temps on
+zeros-unheated temps on xs bs ns z = rw (z .figures-zero, z .flags-zero, z .rounds-zero, zero-lines)
 
 -- ---- a step that is worked
 
@@ -70,63 +86,56 @@ module _ (f : Fixed) (st : State) (a : Step) where
 
   module _ (passed : stepRefusal f st a ≡ 0) where
     -- the end of the work, from where the events ended
-    abbrev after : End → End
-    after e = closed (resume [] [] e (λ s. allTurns f a s) .end)
+    abbrev after : End DrawOff → End Outcome
+    after e = thenTurns f st a [] e .end
 
-    end-only : (es : List Event) (us : List Turn) (e : End) → closed (resume es us e (λ s. allTurns f a s) .end) ≡ after e
-    unfolding resume
-    end-only es us (refused n) = refl
-    end-only es us (done s) = refl
+    end-only : (es : List Event) (e : End DrawOff) → thenTurns f st a es e .end ≡ after e
+    unfolding thenTurns
+    end-only es (refused n) = refl
+    end-only es (done s) = refl
 
-    -- `first` are the layers that the events leave, d what they answer
-    module _ (first : List Float) (d : EventAnswer) (drawn : drawingOf first d ≡ drawAll c (a .feed) (wantedVolumes a) 0 (st .temps) noTotals .end) where
-      end-is : work f st a .end ≡ after (drawnEnd (drawingOf first d) (opening st))
-      unfolding work begin andThen events
+    -- `temps` are the layers that the events leave, d what they answer
+    module _ (temps : List Float) (d : EventAnswer) (drawn : drawingOf temps d ≡ drawAll c (f .vol) (feedIn a) (wantedVolumes a) 0 (st .temps) noTotals .end) where
+      abbrev drawnOff : DrawOff
+      drawnOff = record { temps = temps; totals = d .totals }
+
+      end-is : work f st a .end ≡ after (endBy (d .number) drawnOff)
+      unfolding work begin events
       end-is =
           rw passed
-          (end-only _ _ (events c (a .feed) (wantedVolumes a) (opening st) .end)
-          ∙ ap after (ap (λ (x : Drawing). drawnEnd x (opening st)) (unfold opening in (sym drawn))))
+          (end-only _ _
+          ∙ ap after (events-run f (feedIn a) (wantedVolumes a) (record { temps = st .temps; totals = noTotals }) ∙ ap (λ (x : Drawing). endBy (x .number) (drawnAt x)) (sym drawn)))
 
       pub drawn-refused : (d .number ≡ 0 → ⊥) → work f st a .end ≡ refused (d .number)
-      drawn-refused n = end-is ∙ go (d .number) n (withDraw first (d .totals) (opening st))
+      drawn-refused n = end-is ∙ go (d .number) n
         where
-          go : (k : ℕ) → (k ≡ 0 → ⊥) → (s : Progress) → after (endBy k s) ≡ refused k
-          go zero n s = absurd (n refl)
-          go (suc k) n s = unfold endBy resume closed in refl
+          go : (k : ℕ) → (k ≡ 0 → ⊥) → after (endBy k drawnOff) ≡ refused k
+          go zero n = absurd (n refl)
+          go (suc k) n = unfold endBy thenTurns in refl
 
-      module _ (accepted : d .number ≡ 0) (average : Float) (averaged : average ≡ cond (wideClose (d .totals .drawn) zero-f) (getD first (c .layers - 1) nan) (d .totals .weighted ⊘ d .totals .drawn))
-          (h : Heated) (temps charged : List Float)
-          (heated : (s : Totals) (x : Float) → turns f (settingsOnly (a .settings)) (workingOrder f) (progressOf s x first (replicate maxLayers zero-f) (unheated (st .flags))) .end ≡ endBy (h .number) (progressOf s x temps charged h)) where
-        -- where the turns ended
-        abbrev left : Progress
-        left = progressOf (d .totals) average temps charged h
+      module _ (accepted : d .number ≡ 0) (average : Float) (averaged : average ≡ cond (wideClose (d .totals .drawn) zero-f) (getD temps (c .layers - 1) nan) (d .totals .weighted ⊘ d .totals .drawn))
+          (number : ℕ) (s : Heating) (heated : TurnsWorked f (a .settings) (workingOrder f) (unheated temps (st .flags)) number s) where
+        turns-end : work f st a .end ≡ close drawnOff average (endBy number s)
+        unfolding thenTurns endBy averageOf turns
+        turns-end = end-is ∙ rw (accepted, ← averaged) (ap (close drawnOff average) heated)
 
-        opened : withAverage c (withDraw first (d .totals) (opening st)) ≡ progressOf (d .totals) average first (replicate maxLayers zero-f) (unheated (st .flags))
-        unfolding withAverage averageOf opening
-        opened = rw averaged
-
-        turns-end : work f st a .end ≡ closed (endBy (h .number) left)
-        unfolding resume endBy
-        turns-end =
-            end-is
-            ∙ rw accepted
-            (ap closed (turns-settings f a (workingOrder f) (withAverage c (withDraw first (d .totals) (opening st)))
-            ∙ ap (λ (s : Progress). turns f (settingsOnly (a .settings)) (workingOrder f) s .end) opened
-            ∙ heated (d .totals) average))
-
-        pub heated-refused : (h .number ≡ 0 → ⊥) → work f st a .end ≡ refused (h .number)
-        heated-refused n = turns-end ∙ go (h .number) n
+        pub heated-refused : (number ≡ 0 → ⊥) → work f st a .end ≡ refused number
+        heated-refused n = turns-end ∙ go number n
           where
-            go : (k : ℕ) → (k ≡ 0 → ⊥) → closed (endBy k left) ≡ refused k
+            go : (k : ℕ) → (k ≡ 0 → ⊥) → close drawnOff average (endBy k s) ≡ refused k
             go zero n = absurd (n refl)
-            go (suc k) n = unfold endBy closed in refl
+            go (suc k) n = unfold endBy close in refl
 
-        module _ (finished : h .number ≡ 0) where
+        module _ (finished : number ≡ 0) where
           abbrev isFinite : Bool
-          isFinite = finite average && finite (h .losses ⊛ dbl 0x3fe8_0000_0000_0000)
+          isFinite = finite average && finite (s .losses ⊛ dbl 0x3fe8_0000_0000_0000)
 
-          closed-is : work f st a .end ≡ endBy (cond isFinite 0 10) left
-          unfolding closed recoverable
+          -- what the step came to
+          abbrev outcome : Outcome
+          outcome = record { drawn = drawnOff; average = average; heated = s }
+
+          closed-is : work f st a .end ≡ endBy (cond isFinite 0 10) outcome
+          unfolding close recoverable
           closed-is = turns-end ∙ rw finished (unfold endBy in refl)
 
           pub close-refused : isFinite ≡ false → work f st a .end ≡ refused 10
@@ -135,11 +144,11 @@ module _ (f : Fixed) (st : State) (a : Step) where
 
           -- what the code answers
           abbrev pub workAnswer : WorkAnswer
-          workAnswer = record { number = 0; totals = d .totals; average = average; recoverable = h .losses ⊛ dbl 0x3fe8_0000_0000_0000 }
+          workAnswer = record { number = 0; totals = d .totals; average = average; recoverable = s .losses ⊛ dbl 0x3fe8_0000_0000_0000 }
 
-          pub step-accepted : isFinite ≡ true → StepWorked f st a workAnswer temps (h .flags) (h .lines)
+          pub step-accepted : isFinite ≡ true → StepWorked f st a workAnswer (s .temps) (s .flags) (s .lines)
           unfolding endBy recoverable
           step-accepted e = record {
             refuses = λ n. absurd (n refl);
-            accepts = λ z. (left, closed-is ∙ rw e, record { temps-are = refl; totals-are = refl; average-is = refl; flags-are = refl; lines-are = refl; recoverable-is = refl });
+            accepts = λ z. (outcome, closed-is ∙ rw e, record { temps-are = refl; totals-are = refl; average-is = refl; flags-are = refl; lines-are = refl; recoverable-is = refl });
           }

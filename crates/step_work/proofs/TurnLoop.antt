@@ -1,146 +1,100 @@
--- Proves how the loop over a step's turns works out the definition of the turns (01, Step; Turn): one turn more, or the turn that ends the step.
+-- Proves how the loop over a step's turns works out the run of the turns (01, Step; Turn): one turn more, or the turn that ends the step.
 use mathlib.Core.Path.{_≡_, refl, sym, ap, _∙_}
 use mathlib.Core.List.{List, [], _∷_}
-use mathlib.Core.Bool.{false}
+use mathlib.Core.Bool.{Bool, false}
 use Prim.Native.Nat.{ℕ, zero, suc, _+_, _<_, _≤_}
 use native.Mathlib.Omega.{arith}
 use native.Mathlib.Numerals.{add-one}
 use lib.ListN.{getD, length, take, length-take, drop-of-length-le}
 use lib.Seq.{slice, slice-cons}
-use lib.Ieee.{Float, nan}
-use Rattle.numeric.specs.Tabulate.{tabulate, at-tabulate}
-use Rattle.numeric.specs.Whole.{layerOf}
+use lib.Ieee.{Float}
 use Rattle.cylinder.specs.declared.Cylinder.{Cylinder}
-use Rattle.cylinder.specs.Layers.{layerVolumes}
-use Rattle.draw_off.specs.declared.Totals.{Totals}
-use Rattle.draw_off.specs.Event.{Event}
-use Rattle.heating.specs.Turn.{Turned, turn, turnNumber}
-use Rattle.working_order.specs.Order.{maxHeaters, risingOrder}
-use Rattle.working_order.proofs.Same.{rising-same}
+use Rattle.heating.specs.declared.SetPoints.{SetPoints}
+use Rattle.immersion_heater.specs.Turn.{Turned, turn, turnNumber}
 use Rattle.tank_model.specs.declared.Heater.{Heater}
-use Rattle.tank_model.specs.declared.Setting.{Setting}
-use Rattle.tank_model.specs.Fixed.{Placed, Fixed, noHeater, placedHeaters}
-use Rattle.tank_model.specs.Order.{positions, workingOrder}
-use Rattle.tank_model.specs.Checks.{noSetting}
-use Rattle.tank_model.specs.Work.{Progress, Turn, End, refused, done, Work, resume, andThen, endBy, turnOf, afterTurn, heaterTurn, turns}
-use Rattle.tank_model.proofs.Order.{many-placed, placed-at, position-at}
-use Rattle.step_work.specs.Lent.{Heated, immersion, settingsOnly, afterHeat, TurnWorked, progressOf}
+use Rattle.tank_model.specs.Fixed.{Placed, immersed, Fixed, noHeater, placedHeaters}
+use Rattle.tank_model.specs.Order.{workingOrder}
+use Rattle.tank_model.specs.Run.{End, endBy, Run, first, run}
+use Rattle.tank_model.specs.Work.{Heating, Turn, turnOf, afterTurn, workTurn}
+use Rattle.tank_model.proofs.Order.{placed-at}
+use Rattle.tank_arrays.specs.Arrays.{fixedWith}
+use Rattle.step_work.specs.Lent.{immersion, fixedLent, TurnWorked}
 
--- ---- what follows an end by a number
+-- ---- a run's first part: it goes on, or ends there
 
-resume-on : (es : List Event) (us : List Turn) (n : ℕ) (s : Progress) (f : Progress → Work) → n ≡ 0 → resume es us (endBy n s) f .end ≡ f s .end
-unfolding resume endBy
-resume-on es us n s f e = rw e
+module _ {P S : Type 0} (p : P) (r : Run P S) where
+  first-on : (n : ℕ) → n ≡ 0 → first p n r .end ≡ r .end
+  unfolding first
+  first-on n e = rw e
 
-resume-off : (es : List Event) (us : List Turn) (n : ℕ) (s : Progress) (f : Progress → Work) → (n ≡ 0 → ⊥) → resume es us (endBy n s) f .end ≡ endBy n s
-unfolding resume endBy
-resume-off es us zero s f e = absurd (e refl)
-resume-off es us (suc n) s f e = refl
+  first-off : (n : ℕ) (s : S) → (n ≡ 0 → ⊥) → first p n r .end ≡ endBy n s
+  unfolding first endBy
+  first-off zero s e = absurd (e refl)
+  first-off (suc n) s e = refl
 
 -- past its end a slice is empty
 pub slice-past : (k n : ℕ) (xs : List ℕ) → n ≤ k → slice k n xs ≡ []
 slice-past k n xs l = let m : length (take n xs) ≤ k = simp length-take (omega arith) in drop-of-length-le (take n xs) m
 
-module _ (c : Cylinder) (n : ℕ) (fitted : List Heater) (settings : List Setting) where
+module _ (c : Cylinder) (vol : List Float) (n : ℕ) (fitted : List Heater) (points : ℕ → SetPoints) where
   abbrev fixed : Fixed
-  fixed = record { cylinder = c; heaters = placedHeaters n fitted }
+  fixed = record { cylinder = c; vol = vol; heaters = placedHeaters n fitted }
 
   -- the turn of the heater given as h, by the arrays
-  abbrev turnAt : ℕ → List Float → List Float → Heated → Turned
-  turnAt h temps charged s = turn c (layerVolumes c) (immersion (c .layers) (getD fitted h noHeater)) (getD settings h noSetting .points) temps charged (getD (s .flags) h false)
+  abbrev turnAt : ℕ → Heating → Turned
+  turnAt h s = turn c vol (immersion (c .layers) (getD fitted h noHeater)) (points h) (s .temps) (s .charged) (getD (s .flags) h false)
 
-  module _ (t : Totals) (average : Float) where
-    abbrev leftBy : ℕ → Heated → Turned → Progress
-    leftBy h s u = progressOf t average (u .temps) (u .charged) (afterHeat c h u s)
+  turned-is : (h : ℕ) (s : Heating) → h < n → turnOf fixed points h s .turned ≡ turnAt h s
+  unfolding turnOf
+  turned-is h s l =
+      ap (λ (y : Placed). turn c vol (immersed (c .layers) y) (points h) (s .temps) (s .charged) (getD (s .flags) h false))
+      (placed-at n fitted h l)
 
-    turned-is : (h : ℕ) (temps charged : List Float) (s : Heated) → h < n → turnOf fixed (settingsOnly settings) h (progressOf t average temps charged s) .turned ≡ turnAt h temps charged s
-    unfolding turnOf
-    turned-is h temps charged s l =
-        ap (λ (y : Placed). turn c (layerVolumes c) (record { rated = y .rated; layer = layerOf (y .position) (c .layers); thermostat = layerOf (y .thermostat) (c .layers) }) (getD settings h noSetting .points) temps charged (getD (s .flags) h false))
-        (placed-at n fitted h l)
+  -- where the turns of the heaters hs end
+  abbrev pub turnsFrom : List ℕ → Heating → End Heating
+  turnsFrom hs s = run (workTurn fixed points) hs s .end
 
-    left-is : (h : ℕ) (temps charged : List Float) (s : Heated) → afterTurn (turnOf fixed (settingsOnly settings) h (progressOf t average temps charged s)) (progressOf t average temps charged s) ≡ leftBy h s (turnOf fixed (settingsOnly settings) h (progressOf t average temps charged s) .turned)
-    unfolding afterTurn turnOf
-    left-is h temps charged s = refl
+  module _ (h : ℕ) (hs : List ℕ) (s : Heating) (m : ℕ) (s' : Heating) (l : h < n) (w : TurnWorked c h (turnAt h s) s m s') where
+    turn-number : turnNumber c (turnOf fixed points h s .turned) ≡ m
+    turn-number = ap (turnNumber c) (turned-is h s l) ∙ sym (w .number)
 
-    -- where the turn ends, by the arrays
-    abbrev ends : (h : ℕ) (hs : List ℕ) (s : Heated) → Turned → End
-    ends h hs s u = resume [] [] (endBy (turnNumber c u) (leftBy h s u)) (λ s'. turns fixed (settingsOnly settings) hs s') .end
+    turn-leaves : afterTurn h (turnOf fixed points h s .turned) s ≡ s'
+    turn-leaves = ap (λ (u : Turned). afterTurn h u s) (turned-is h s l) ∙ sym (w .leaves)
 
-    more-end : (us vs : List Turn) (e : End) (f : Progress → Work) → resume [] us e f .end ≡ resume [] vs e f .end
-    unfolding resume
-    more-end us vs (refused k) f = refl
-    more-end us vs (done s) f = refl
+    turn-on : m ≡ 0 → turnsFrom (h ∷ hs) s ≡ turnsFrom hs s'
+    unfolding run workTurn
+    turn-on z = first-on _ _ _ (turn-number ∙ z) ∙ ap (turnsFrom hs) turn-leaves
 
-    turns-end : (h : ℕ) (hs : List ℕ) (temps charged : List Float) (s : Heated) → h < n → turns fixed (settingsOnly settings) (h ∷ hs) (progressOf t average temps charged s) .end ≡ ends h hs s (turnAt h temps charged s)
-    unfolding turns andThen heaterTurn
-    turns-end h hs temps charged s l =
-        let u = turnOf fixed (settingsOnly settings) h (progressOf t average temps charged s) in
-        more-end (u ∷ []) [] _ (λ s'. turns fixed (settingsOnly settings) hs s')
-        ∙ ap (λ (p : Progress). resume [] [] (endBy (turnNumber c (u .turned)) p) (λ s'. turns fixed (settingsOnly settings) hs s') .end) (left-is h temps charged s)
-        ∙ ap (λ (v : Turned). ends h hs s v) (turned-is h temps charged s l)
+    turn-off : (m ≡ 0 → ⊥) → turnsFrom (h ∷ hs) s ≡ endBy (m) s'
+    unfolding run workTurn
+    turn-off z = first-off _ _ _ s' (λ q. z (sym turn-number ∙ q)) ∙ ap (λ (k : ℕ). endBy k s') turn-number
 
-    -- what the code answered is where the turn ends
-    worked-left : (h : ℕ) (s r : Heated) (u : Turned) (temps charged : List Float) → TurnWorked c h u s r temps charged → leftBy h s u ≡ progressOf t average temps charged r
-    worked-left h s r u temps charged w = rw (w .answers, w .leaves, w .charges)
+  -- ---- the loop over the first n places of `order`, which has come to k
 
-    pub turn-on : (h : ℕ) (hs : List ℕ) (temps charged : List Float) (s r : Heated) (temps' charged' : List Float) → h < n → TurnWorked c h (turnAt h temps charged s) s r temps' charged' → r .number ≡ 0
-        → turns fixed (settingsOnly settings) (h ∷ hs) (progressOf t average temps charged s) .end ≡ turns fixed (settingsOnly settings) hs (progressOf t average temps' charged' r) .end
-    turn-on h hs temps charged s r temps' charged' l w z =
-        turns-end h hs temps charged s l
-        ∙ resume-on [] [] _ _ (λ s'. turns fixed (settingsOnly settings) hs s') (sym (ap (λ (y : Heated). y .number) (w .answers)) ∙ z)
-        ∙ ap (λ (p : Progress). turns fixed (settingsOnly settings) hs p .end) (worked-left h s r (turnAt h temps charged s) temps' charged' w)
+  pub start-with : (hs : List ℕ) (s s' : Heating) → s ≡ s' → turnsFrom hs s' ≡ turnsFrom hs s
+  start-with hs s s' e = ap (turnsFrom hs) (sym e)
 
-    pub turn-off : (h : ℕ) (hs : List ℕ) (temps charged : List Float) (s r : Heated) (temps' charged' : List Float) → h < n → TurnWorked c h (turnAt h temps charged s) s r temps' charged' → (r .number ≡ 0 → ⊥)
-        → turns fixed (settingsOnly settings) (h ∷ hs) (progressOf t average temps charged s) .end ≡ endBy (r .number) (progressOf t average temps' charged' r)
-    turn-off h hs temps charged s r temps' charged' l w z =
-        let e = ap (λ (y : Heated). y .number) (w .answers) in
-        turns-end h hs temps charged s l
-        ∙ resume-off [] [] _ _ (λ s'. turns fixed (settingsOnly settings) hs s') (λ q. z (e ∙ q))
-        ∙ ap (λ (k : ℕ). endBy k (leftBy h s (turnAt h temps charged s))) (sym e)
-        ∙ ap (λ (p : Progress). endBy (r .number) p) (worked-left h s r (turnAt h temps charged s) temps' charged' w)
+  pub in-order : (hs hs' : List ℕ) (s : Heating) (e : End Heating) → hs ≡ hs' → turnsFrom hs' s ≡ e → turnsFrom hs s ≡ e
+  in-order hs hs' s e o h = ap (λ (gs : List ℕ). turnsFrom gs s) o ∙ h
 
-    -- ---- the loop over the first n places of `order`, which has come to k
+  module _ (order : List ℕ) (k : ℕ) (s : Heating) (whole : End Heating) (before : turnsFrom (slice k n order) s ≡ whole) where
+    pub loop-done : n ≤ k → whole ≡ endBy 0 s
+    unfolding run endBy
+    loop-done l = sym before ∙ ap (λ (hs : List ℕ). turnsFrom hs s) (slice-past k n order l)
 
-    -- where the turns of the heaters hs end
-    abbrev pub turnsFrom : List ℕ → List Float → List Float → Heated → End
-    turnsFrom hs temps charged s = turns fixed (settingsOnly settings) hs (progressOf t average temps charged s) .end
+    module _ (m : ℕ) (s' : Heating) (l : k < n) (long : n ≤ length order) (h : getD order k 0 < n) (w : TurnWorked c (getD order k 0) (turnAt (getD order k 0) s) s m s') where
+      one-more : turnsFrom (getD order k 0 ∷ slice (suc k) n order) s ≡ whole
+      one-more = sym (ap (λ (hs : List ℕ). turnsFrom hs s) (slice-cons k n order 0 l long)) ∙ before
 
-    pub start-with : (hs : List ℕ) (temps charged : List Float) (s s' : Heated) → s ≡ s' → turnsFrom hs temps charged s' ≡ turnsFrom hs temps charged s
-    start-with hs temps charged s s' e = ap (λ (z : Heated). turnsFrom hs temps charged z) (sym e)
+      pub loop-on : m ≡ 0 → turnsFrom (slice (k + 1) n order) s' ≡ whole
+      loop-on z = rw add-one (sym (turn-on (getD order k 0) (slice (suc k) n order) s m s' h w z) ∙ one-more)
 
-    pub in-order : (hs hs' : List ℕ) (temps charged : List Float) (s : Heated) (e : End) → hs ≡ hs' → turnsFrom hs' temps charged s ≡ e → turnsFrom hs temps charged s ≡ e
-    in-order hs hs' temps charged s e o h = ap (λ (gs : List ℕ). turnsFrom gs temps charged s) o ∙ h
+      pub loop-off : (m ≡ 0 → ⊥) → whole ≡ endBy (m) s'
+      loop-off z = sym one-more ∙ turn-off (getD order k 0) (slice (suc k) n order) s m s' h w z
 
-    module _ (order : List ℕ) (k : ℕ) (temps charged : List Float) (s : Heated) (whole : End) (before : turnsFrom (slice k n order) temps charged s ≡ whole) where
-      pub loop-done : n ≤ k → whole ≡ endBy 0 (progressOf t average temps charged s)
-      unfolding turns endBy
-      loop-done l = sym before ∙ ap (λ (hs : List ℕ). turnsFrom hs temps charged s) (slice-past k n order l)
+-- ---- the order of work does not look at the layers' volumes
 
-      module _ (r : Heated) (temps' charged' : List Float) (l : k < n) (long : n ≤ length order) (h : getD order k 0 < n) (w : TurnWorked c (getD order k 0) (turnAt (getD order k 0) temps charged s) s r temps' charged') where
-        one-more : turnsFrom (getD order k 0 ∷ slice (suc k) n order) temps charged s ≡ whole
-        one-more = sym (ap (λ (hs : List ℕ). turnsFrom hs temps charged s) (slice-cons k n order 0 l long)) ∙ before
-
-        pub loop-on : r .number ≡ 0 → turnsFrom (slice (k + 1) n order) temps' charged' r ≡ whole
-        loop-on z = rw add-one (sym (turn-on (getD order k 0) (slice (suc k) n order) temps charged s r temps' charged' h w z) ∙ one-more)
-
-        pub loop-off : (r .number ≡ 0 → ⊥) → whole ≡ endBy (r .number) (progressOf t average temps' charged' r)
-        loop-off z = sym one-more ∙ turn-off (getD order k 0) (slice (suc k) n order) temps charged s r temps' charged' h w z
-
--- ---- the order of work, by the array of positions
-
-pub order-is : (c : Cylinder) (n : ℕ) (fitted : List Heater) → n < suc maxHeaters → workingOrder (record { cylinder = c; heaters = placedHeaters n fitted }) ≡ risingOrder (tabulate (λ (h : ℕ). getD fitted h noHeater .position) maxHeaters 0) n
+pub same-order : (c : Cylinder) (vol : List Float) (n : ℕ) (heaters : List Float) (thermostats : List Bool)
+    → workingOrder (fixedLent c vol n heaters thermostats) ≡ workingOrder (fixedWith c n heaters thermostats)
 unfolding workingOrder
-order-is c n fitted l = rw (many-placed n fitted) (rising-same (positions f) lent n same)
-  where
-    f : Fixed
-    f = record { cylinder = c; heaters = placedHeaters n fitted }
-
-    lent : List Float
-    lent = tabulate (λ (h : ℕ). getD fitted h noHeater .position) maxHeaters 0
-
-    same : (h : ℕ) → h < n → getD (positions f) h nan ≡ getD lent h nan
-    same h k =
-        position-at f h
-        ∙ ap (λ (y : Placed). y .position) (placed-at n fitted h k)
-        ∙ sym (at-tabulate (λ (j : ℕ). getD fitted j noHeater .position) maxHeaters h nan (omega arith))
+same-order c vol n heaters thermostats = refl

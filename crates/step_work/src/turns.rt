@@ -1,22 +1,16 @@
 // The heaters' turns of a step, in working order, each on the layers left by the one before.
 ghost use mathlib.Core.Path.{_≡_};
-ghost use mathlib.Core.Bool.{Bool, false};
-ghost use mathlib.Core.List.{List};
-ghost use Prim.Native.Nat.{ℕ, _≤_, _<_};
-ghost use lib.ListN.{getD, length, take};
-ghost use Rattle.numeric.specs.Tabulate.{tabulate};
+ghost use mathlib.Core.Bool.{false};
+ghost use Prim.Native.Nat.{_≤_, _<_};
+ghost use lib.ListN.{getD, take};
 ghost use Rattle.mixing.specs.Limits.{maxLayers};
-ghost use Rattle.cylinder.specs.Layers.{layerVolumes};
-ghost use Rattle.heating.specs.Turn.{turn};
+ghost use Rattle.immersion_heater.specs.Turn.{turn};
 ghost use Rattle.working_order.specs.Order.{maxHeaters};
-ghost use Rattle.tank_model.specs.Fixed.{noHeater};
 ghost use Rattle.tank_model.specs.Order.{workingOrder};
-ghost use Rattle.tank_model.specs.Work.{zeroLine};
-ghost use Rattle.tank_arrays.specs.Arrays.{fittedIn, settingsIn, HoldsLines, fixedWith};
-ghost use Rattle.step_work.specs.Lent.{immersion, noTurns, heatedIn, TurnWorked, TurnsWorked};
+ghost use Rattle.tank_arrays.specs.Arrays.{settingsIn, HoldsLines};
+ghost use Rattle.step_work.specs.Lent.{immersion, fixedLent, noTurns, heatingIn, CanHeat, OrderOf, TurnWorked, TurnsWorked};
 use cylinder::Cylinder;
 use heating::SetPoints;
-use heating::turn::Immersion;
 use mixing::limits::MAX_LAYERS;
 use tank_arrays::arrays::THREE_EACH;
 use tank_arrays::arrays::TWO_EACH;
@@ -30,18 +24,6 @@ pub struct TurnsAnswer {
     pub losses: f64,
 }
 
-pub fn zero_line() -> HeaterLine
-    ensures { λ r. ⌜ r ≡ zeroLine ⌝ }
-{
-    HeaterLine {
-        flag: false,
-        adjusted: 0.0,
-        supplied: 0.0,
-        losses: 0.0,
-        rounds: 0,
-    }
-}
-
 // Before the first turn.
 pub fn no_turns() -> TurnsAnswer
     ensures { λ r. ⌜ r ≡ noTurns ⌝ }
@@ -49,18 +31,6 @@ pub fn no_turns() -> TurnsAnswer
     TurnsAnswer {
         number: 0,
         losses: 0.0,
-    }
-}
-
-// The heater with the layers that a step finds for it.
-pub fn immersion_of(n: usize, x: Heater) -> Immersion
-    requires { ⌜ n ≤ maxLayers ⌝ }
-    ensures { λ r. ⌜ r ≡ immersion n x ⌝ }
-{
-    Immersion {
-        rated: x.rated,
-        layer: numeric::whole::layer_of(x.position, n),
-        thermostat: numeric::whole::layer_of(tank_arrays::checks::thermostat_position(x), n),
     }
 }
 
@@ -80,10 +50,15 @@ fn heat_turn(
     rounds: &mut [usize; MAX_HEATERS],
 ) -> TurnsAnswer
     requires { ⌜ (1 ≤ c .layers) × (c .layers ≤ maxLayers) × (h < maxHeaters) × HoldsLines (now figures) (now flags) (now rounds) ⌝ }
-    ensures { λ r. ⌜ TurnWorked c h (turn c (now (vol .entry)) (immersion (c .layers) x) p (now (temps .entry)) (now (charged .entry)) (getD (now (on .entry)) h false)) (heatedIn s (now (on .entry)) (now (figures .entry)) (now (flags .entry)) (now (rounds .entry))) (heatedIn r (now (on .exit)) (now (figures .exit)) (now (flags .exit)) (now (rounds .exit))) (now (temps .exit)) (now (charged .exit)) × HoldsLines (now (figures .exit)) (now (flags .exit)) (now (rounds .exit)) ⌝ }
+    ensures { λ r. ⌜ TurnWorked c h
+        (turn c (now (vol .entry)) (immersion (c .layers) x) p (now (temps .entry)) (now (charged .entry)) (getD (now (on .entry)) h false))
+        (heatingIn (now (temps .entry)) (now (charged .entry)) (now (on .entry)) s (now (figures .entry)) (now (flags .entry)) (now (rounds .entry)))
+        (r .number)
+        (heatingIn (now (temps .exit)) (now (charged .exit)) (now (on .exit)) r (now (figures .exit)) (now (flags .exit)) (now (rounds .exit)))
+        × HoldsLines (now (figures .exit)) (now (flags .exit)) (now (rounds .exit)) ⌝ }
 {
-    let i = immersion_of(c.layers, x);
-    let u = heating::turn::turn(c, vol, i, p, on[h], temps, charged);
+    let i = tank_model::immersion_of(c.layers, x);
+    let u = immersion_heater::turn::turn(c, vol, i, p, on[h], temps, charged);
     on[h] = u.flag;
     let line = HeaterLine {
         flag: u.flag,
@@ -97,36 +72,6 @@ fn heat_turn(
         number: u.number,
         losses: s.losses + u.losses,
     }
-}
-
-// The heaters' positions, as given.
-pub fn positions_of(fitted: [Heater; MAX_HEATERS]) -> [f64; MAX_HEATERS]
-    ensures { λ r. ⌜ r ≡ tabulate (λ (h : ℕ). getD fitted h noHeater .position) maxHeaters 0 ⌝ }
-{
-    let mut positions = [0.0; MAX_HEATERS];
-    let mut h = 0;
-    while h < MAX_HEATERS {
-        let x = fitted[h];
-        positions[h] = x.position;
-        h += 1;
-    }
-    positions
-}
-
-// The same, from the array that holds them.
-fn positions_in(heaters: &[f64; THREE_EACH]) -> [f64; MAX_HEATERS]
-    ensures { λ r. ⌜ ((thermostats : List Bool) → r ≡ tabulate (λ (h : ℕ). getD (fittedIn (now (heaters .entry)) thermostats) h noHeater .position) maxHeaters 0) ⌝ }
-{
-    [
-        heaters[8],
-        heaters[9],
-        heaters[10],
-        heaters[11],
-        heaters[12],
-        heaters[13],
-        heaters[14],
-        heaters[15],
-    ]
 }
 
 // The turns of n heaters in the order of work, up to the one that ends the step.
@@ -146,8 +91,14 @@ fn heat_in_order(
     flags: &mut [bool; MAX_HEATERS],
     rounds: &mut [usize; MAX_HEATERS],
 ) -> TurnsAnswer
-    requires { ⌜ (1 ≤ c .layers) × (c .layers ≤ maxLayers) × (n ≤ maxHeaters) × (now vol ≡ layerVolumes c) × (length (now order) ≡ maxHeaters) × ((k : ℕ) → k < n → getD (now order) k 0 < n) × HoldsLines (now figures) (now flags) (now rounds) ⌝ }
-    ensures { λ r. ⌜ TurnsWorked c n (fittedIn (now (heaters .entry)) (now (thermostats .entry))) (settingsIn (now (present .entry)) (now (points .entry))) (take n (now (order .entry))) (now (temps .entry)) (now (charged .entry)) (heatedIn noTurns (now (on .entry)) (now (figures .entry)) (now (flags .entry)) (now (rounds .entry))) (heatedIn r (now (on .exit)) (now (figures .exit)) (now (flags .exit)) (now (rounds .exit))) (now (temps .exit)) (now (charged .exit)) × HoldsLines (now (figures .exit)) (now (flags .exit)) (now (rounds .exit)) ⌝ }
+    requires { ⌜ CanHeat c n × OrderOf n (now order) × HoldsLines (now figures) (now flags) (now rounds) ⌝ }
+    ensures { λ r. ⌜ TurnsWorked (fixedLent c (now (vol .entry)) n (now (heaters .entry)) (now (thermostats .entry)))
+        (settingsIn (now (present .entry)) (now (points .entry)))
+        (take n (now (order .entry)))
+        (heatingIn (now (temps .entry)) (now (charged .entry)) (now (on .entry)) noTurns (now (figures .entry)) (now (flags .entry)) (now (rounds .entry)))
+        (r .number)
+        (heatingIn (now (temps .exit)) (now (charged .exit)) (now (on .exit)) r (now (figures .exit)) (now (flags .exit)) (now (rounds .exit)))
+        × HoldsLines (now (figures .exit)) (now (flags .exit)) (now (rounds .exit)) ⌝ }
 {
     let mut s = no_turns();
     let mut k = 0;
@@ -193,11 +144,16 @@ pub fn heat_turns(
     flags: &mut [bool; MAX_HEATERS],
     rounds: &mut [usize; MAX_HEATERS],
 ) -> TurnsAnswer
-    requires { ⌜ (1 ≤ c .layers) × (c .layers ≤ maxLayers) × (n ≤ maxHeaters) × (now vol ≡ layerVolumes c) × HoldsLines (now figures) (now flags) (now rounds) ⌝ }
-    ensures { λ r. ⌜ TurnsWorked c n (fittedIn (now (heaters .entry)) (now (thermostats .entry))) (settingsIn (now (present .entry)) (now (points .entry))) (workingOrder (fixedWith c n (now (heaters .entry)) (now (thermostats .entry)))) (now (temps .entry)) (now (charged .entry)) (heatedIn noTurns (now (on .entry)) (now (figures .entry)) (now (flags .entry)) (now (rounds .entry))) (heatedIn r (now (on .exit)) (now (figures .exit)) (now (flags .exit)) (now (rounds .exit))) (now (temps .exit)) (now (charged .exit)) × HoldsLines (now (figures .exit)) (now (flags .exit)) (now (rounds .exit)) ⌝ }
+    requires { ⌜ CanHeat c n × HoldsLines (now figures) (now flags) (now rounds) ⌝ }
+    ensures { λ r. ⌜ TurnsWorked (fixedLent c (now (vol .entry)) n (now (heaters .entry)) (now (thermostats .entry)))
+        (settingsIn (now (present .entry)) (now (points .entry)))
+        (workingOrder (fixedLent c (now (vol .entry)) n (now (heaters .entry)) (now (thermostats .entry))))
+        (heatingIn (now (temps .entry)) (now (charged .entry)) (now (on .entry)) noTurns (now (figures .entry)) (now (flags .entry)) (now (rounds .entry)))
+        (r .number)
+        (heatingIn (now (temps .exit)) (now (charged .exit)) (now (on .exit)) r (now (figures .exit)) (now (flags .exit)) (now (rounds .exit)))
+        × HoldsLines (now (figures .exit)) (now (flags .exit)) (now (rounds .exit)) ⌝ }
 {
-    let positions = positions_in(heaters);
-    let order = working_order::working_order(n, &positions);
+    let order = working_order::working_order(n, heaters);
     heat_in_order(
         c,
         vol,

@@ -11,8 +11,9 @@ ghost use Rattle.mixing.specs.Limits.{maxLayers};
 ghost use Rattle.tank_arrays.specs.Arrays.{linesIn, HoldsLines, ZeroLines, fixedWith, stepWith};
 ghost use Rattle.step_work.specs.Lent.{noTotals, StepWorked};
 use cylinder::Cylinder;
-use draw_off::Totals;
-use draw_off::event::MAX_EVENTS;
+use draw_events::Totals;
+use draw_events::event::MAX_EVENTS;
+use draw_off::cold::Feed;
 use mixing::limits::MAX_LAYERS;
 use tank_arrays::arrays::THREE_EACH;
 use tank_arrays::arrays::TWO_EACH;
@@ -90,7 +91,11 @@ pub fn work_step(
     rounds: &mut [usize; MAX_HEATERS],
 ) -> WorkAnswer
     requires { ⌜ ZeroLines (now figures) (now flags) (now rounds) ⌝ }
-    ensures { λ r. ⌜ StepWorked (fixedWith c n (now (heaters .entry)) (now (thermostats .entry))) (record { temps = now (temps .entry); flags = now (on .entry) }) (stepWith feed events (now (volumes .entry)) entries (now (present .entry)) (now (points .entry))) r (now (temps .exit)) (now (on .exit)) (linesIn (now (figures .exit)) (now (flags .exit)) (now (rounds .exit))) × (r .number ≡ 0 → HoldsLines (now (figures .exit)) (now (flags .exit)) (now (rounds .exit))) ⌝ }
+    ensures { λ r. ⌜ StepWorked (fixedWith c n (now (heaters .entry)) (now (thermostats .entry)))
+        (record { temps = now (temps .entry); flags = now (on .entry) })
+        (stepWith feed events (now (volumes .entry)) entries (now (present .entry)) (now (points .entry)))
+        r (now (temps .exit)) (now (on .exit)) (linesIn (now (figures .exit)) (now (flags .exit)) (now (rounds .exit)))
+        × (r .number ≡ 0 → HoldsLines (now (figures .exit)) (now (flags .exit)) (now (rounds .exit))) ⌝ }
 {
     let k = tank_arrays::refusals::lent_refusal(
         c,
@@ -109,7 +114,8 @@ pub fn work_step(
         return refused(k);
     }
     let vol = cylinder::layer_volumes(c);
-    let d = draw_off::event::draw_events(c, &vol, feed, events, volumes, temps, no_totals());
+    let water = Feed { temperature: feed };
+    let d = draw_events::event::draw_events(c, &vol, water, events, volumes, temps, no_totals());
     if d.number != 0 {
         return refused(d.number);
     }

@@ -16,8 +16,9 @@ use Rattle.tank_model.specs.declared.Step.{Step}
 use Rattle.tank_model.specs.declared.HeaterLine.{HeaterLine}
 use Rattle.tank_model.specs.Fixed.{fixedOf}
 use Rattle.tank_model.specs.Checks.{makeRefusal}
-use Rattle.tank_model.specs.Work.{Progress, done, work}
-use Rattle.tank_model.proofs.Works.{tank-passes}
+use Rattle.tank_model.specs.Run.{done}
+use Rattle.tank_model.specs.Work.{Outcome, work}
+use Rattle.tank_model.proofs.Passes.{tank-passes}
 use Rattle.tank_arrays.specs.Arrays.{heatersOf, thermostatsOf, fixedWith}
 use Rattle.tank_arrays.proofs.LentArrays.{heaters-back}
 use Rattle.step_work.specs.declared.work.WorkAnswer.{WorkAnswer}
@@ -59,5 +60,5 @@ module _ (t : StorageTank) (r : Report) (a : Step) (w : WorkAnswer) (temps : Lis
   pub step-accepts : w .number ≡ 0 → acceptedStep t temps flags w lines ≡ stepped t r a
   step-accepts z = go (worked .accepts z .0) (worked .accepts z .1) (worked .accepts z .2)
     where
-      go : (s : Progress) → work (fixedIn t) (stateIn t) a .end ≡ done s → Left s w temps flags lines → acceptedStep t temps flags w lines ≡ stepped t r a
+      go : (s : Outcome) → work (fixedIn t) (stateIn t) a .end ≡ done s → Left s w temps flags lines → acceptedStep t temps flags w lines ≡ stepped t r a
       go s e l = unfold stepped answer in (rw (e, ← l .recoverable-is, l .temps-are, l .totals-are, l .average-is, l .flags-are, l .lines-are))

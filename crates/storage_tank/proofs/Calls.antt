@@ -17,10 +17,12 @@ use Rattle.cylinder.specs.Layers.{allFinite}
 use Rattle.tank_model.specs.declared.TankDesign.{TankDesign}
 use Rattle.tank_model.specs.declared.Step.{Step}
 use Rattle.tank_model.specs.Fixed.{Fixed, fixedOf}
-use Rattle.tank_model.specs.Checks.{firstRefusal, tankChecks, makeRefusal}
-use Rattle.tank_model.specs.Work.{End, refused, done, work}
+use Rattle.tank_model.specs.FirstRefusal.{firstRefusal}
+use Rattle.tank_model.specs.Checks.{tankChecks, makeRefusal}
+use Rattle.tank_model.specs.Run.{End, refused, done}
+use Rattle.tank_model.specs.Work.{Outcome, work}
 use Rattle.tank_model.specs.History.{designRefusal, start}
-use Rattle.tank_model.proofs.Works.{made-heaters, tank-passes}
+use Rattle.tank_model.proofs.Passes.{made-heaters, tank-passes}
 use Rattle.storage_tank.specs.declared.StorageTank.{StorageTank}
 use Rattle.storage_tank.specs.declared.Report.{Report}
 use Rattle.storage_tank.specs.Tank.{fixedIn, stateIn}
@@ -34,7 +36,7 @@ pub refused-step : (t : StorageTank) (r : Report) (a : Step) → 0 < stepped t r
 unfolding stepped
 refused-step t r a l = go (work (fixedIn t) (stateIn t) a .end) l
   where
-    go : (e : End) → 0 < answer t r e .number → (answer t r e .tank ≡ t) × (answer t r e .report ≡ r)
+    go : (e : End Outcome) → 0 < answer t r e .number → (answer t r e .tank ≡ t) × (answer t r e .report ≡ r)
     go (refused n) l = unfold answer in (refl, refl)
     go (done s) l = absurd (unfold answer in (omega (arith, l)))
 
@@ -61,9 +63,9 @@ initial-finite m e = is-true (finite (m .initial)) (tank-passes (fixedOf m) (fin
 pub made-passes : (m : TankDesign) → made m .number ≡ 0 → firstRefusal (tankChecks (fixedIn (made m .tank)) (allFinite (made m .tank .layers) (made m .tank .temps))) ≡ 0
 made-passes m e =
     let z : designRefusal m ≡ 0 = sym (made-is m .0) ∙ e in
-    let held : made m .tank ≡ tankOf m (start m) = made-is m .1 ∙ ap (λ (n : ℕ). holding m n (start m)) z in
+    let held : made m .tank ≡ tankOf m (start m .state) = made-is m .1 ∙ ap (λ (n : ℕ). holding n (start m)) z in
     let finite-layers = filled-finite (m .layers) (m .initial) (drop (m .layers) (replicate maxLayers zero-f)) (initial-finite m z) in
     subst (λ (t : StorageTank). firstRefusal (tankChecks (fixedIn t) (allFinite (t .layers) (t .temps))) ≡ 0) (sym held)
-    (ap (λ (f : Fixed). firstRefusal (tankChecks f (allFinite (m .layers) (start m .temps)))) (fixed-is m (start m) (made-heaters m z))
-    ∙ same-checks m (allFinite (m .layers) (start m .temps)) (finite-layers ∙ sym (initial-finite m z))
+    (ap (λ (f : Fixed). firstRefusal (tankChecks f (allFinite (m .layers) (start m .state .temps)))) (fixed-is m (start m .state) (made-heaters m z))
+    ∙ same-checks m (allFinite (m .layers) (start m .state .temps)) (finite-layers ∙ sym (initial-finite m z))
     ∙ z)

@@ -1,6 +1,5 @@
 -- Proves demand 3: of what make and every list of calls answer, and of whatever was answered where each answer meets its call's promise (00, demand 3; 01, Turn).
 use mathlib.Core.Path.{_≡_, refl, sym, ap, ap₂, _∙_, subst}
-use mathlib.Core.Logic.{_↔_}
 use mathlib.Core.List.{List, [], _∷_}
 use mathlib.Core.Bool.{Bool, true, false, not, cond}
 use Prim.Native.Nat.{ℕ, zero, suc, _<_, _≤_}
@@ -8,7 +7,6 @@ use native.Mathlib.Nat.{le-of-suc-le-suc, not-suc-le-zero}
 use native.Mathlib.Omega.{arith}
 use lib.Dec.{T, ltb, lt→ltb, ltb→lt, nltb→le}
 use lib.ListN.{length, getD, take}
-use lib.Seq.{take-all}
 use lib.Ieee.Bits.{is-true}
 use Rattle.numeric.specs.Double.{zero-f}
 use Rattle.numeric.specs.Tabulate.{tabulate, at-tabulate, past-tabulate, tabulate-same}
@@ -16,22 +14,25 @@ use Rattle.working_order.specs.Order.{maxHeaters}
 use Rattle.tank_model.specs.declared.Heater.{Heater}
 use Rattle.tank_model.specs.declared.HeaterLine.{HeaterLine}
 use Rattle.tank_model.specs.declared.TankDesign.{TankDesign}
-use Rattle.tank_model.specs.Fixed.{Placed, Fixed, State, placed, noHeater, placedHeaters, fixedOf}
-use Rattle.tank_model.specs.Checks.{firstRefusal, stepRefusal}
-use Rattle.tank_model.specs.Work.{Progress, Turn, End, refused, done, Work, zeroLine, recoverable, begin, work}
-use Rattle.tank_model.specs.History.{Call, step, designRefusal, start, carry, carried, workOf, run, history}
+use Rattle.tank_model.specs.Fixed.{Placed, Fixed, State, placed, noHeater, zeroHeater, placedHeaters, fixedBy, fixedOf}
+use Rattle.tank_model.specs.FirstRefusal.{firstRefusal}
+use Rattle.tank_model.specs.Checks.{stepRefusal}
+use Rattle.tank_model.specs.Run.{End, refused, done, endedAt, Run, run}
+use Rattle.tank_model.specs.Work.{Turn, Outcome, Work, zeroLine, recoverable, begin, work}
+use Rattle.tank_model.specs.History.{Call, step, designRefusal, Held, start, carry, callWork, workCall, history, heldAfter}
 use Rattle.tank_model.specs.Members.{All}
 use Rattle.tank_model.specs.Course.{accepted, passed, LineTells}
-use Rattle.tank_model.specs.HistoryDemand.{RightlySupplied, AllRightlySupplied, AllTold, noWork, OnSince, HistoryDemand}
+use Rattle.tank_model.specs.HistoryDemand.{RightlySupplied, AllRightlySupplied, AllTold, noWork, workAt, heldAt, designAt, HistoryDemand}
 use Rattle.tank_model.proofs.Members.{all-map, all-both}
-use Rattle.tank_model.proofs.Works.{made-heaters}
-use Rattle.tank_model.proofs.HistoryDemand.{history-demand}
+use Rattle.tank_model.proofs.Passes.{made-heaters}
+use Rattle.tank_model.proofs.Run.{more-parts, ended-more}
+use Rattle.tank_model.proofs.HistoryDemand.{no-number, history-demand}
 use Rattle.storage_tank.specs.declared.StorageTank.{StorageTank}
 use Rattle.storage_tank.specs.declared.Report.{Report}
 use Rattle.storage_tank.specs.declared.Made.{Made}
 use Rattle.storage_tank.specs.declared.Stepped.{Stepped}
 use Rattle.storage_tank.specs.Tank.{fixedIn}
-use Rattle.storage_tank.specs.Calls.{zeroHeater, cleanHeater, fittedHeaters, madeOf, made, answer, stepped, answered, answers}
+use Rattle.storage_tank.specs.Calls.{cleanHeater, fittedHeaters, madeOf, made, answer, stepped, answered, answers}
 use Rattle.storage_tank.specs.Demand.{AnswersSupplies, AnswersTotals, AnswersNumber, noAnswer, lastTank, tankOf, NoTank, holding, AsGiven, FittedAsGiven, Demand3, Promises}
 
 -- ---- a tank that holds make's numbers is read as make's arguments
@@ -87,64 +88,83 @@ clean-placed x = go (x .«has_thermostat»)
 pub fixed-is : (m : TankDesign) (st : State) → m .heaters ≤ maxHeaters → fixedIn (tankOf m st) ≡ fixedOf m
 unfolding placedHeaters
 fixed-is m st l =
-    ap (λ (hs : List Placed). record { cylinder = fixedOf m .cylinder; heaters = hs })
+    ap (λ (hs : List Placed). fixedBy (fixedOf m .cylinder) hs)
     (tabulate-same (λ (h : ℕ). placed (getD (tankOf m st .fitted) h noHeater)) (λ (h : ℕ). placed (getD (m .fitted) h noHeater)) (m .heaters) 0
     (λ h l' k. ap placed (fitted-given (m .heaters) h (m .fitted) (omega arith) (omega arith)) ∙ clean-placed (getD (m .fitted) h noHeater)))
 
--- ---- one call on a tank that holds the state st: it answers by the work from make's arguments, and hands back a tank that holds the state carried on
+-- ---- one call on a tank that holds x: it answers by the work from the arguments, and hands back a tank that holds what is carried on
 
-module _ (m : TankDesign) (n : ℕ) (fits : n ≡ 0 → m .heaters ≤ maxHeaters) where
-  call-is : (st : State) (r : Report) (x : Call) → answered (holding m n st) r x ≡ answer (holding m n st) r (workOf m n st x .end)
-  call-is st r (step a) = go n fits
-    where
-      go : (k : ℕ) → (k ≡ 0 → m .heaters ≤ maxHeaters) → answered (holding m k st) r (step a) ≡ answer (holding m k st) r (workOf m k st (step a) .end)
-      go zero f = unfold workOf answered stepped in (ap (λ (y : Fixed). answer (tankOf m st) r (work y st a .end)) (fixed-is m st (f refl)))
-      go (suc k) f = unfold workOf answered stepped work stepRefusal firstRefusal begin in refl
+module _ (n : ℕ) where
+  -- a made tank has a place for each heater
+  abbrev Fits : Held → Type 0
+  Fits x = n ≡ 0 → x .design .heaters ≤ maxHeaters
 
-  tank-is : (st : State) (r : Report) (x : Call) → answer (holding m n st) r (workOf m n st x .end) .tank ≡ holding m n (carry st (workOf m n st x .end))
-  tank-is st r (step a) = go n
+  call-is : (x : Held) (r : Report) (c : Call) → Fits x → answered (holding n x) r c ≡ answer (holding n x) r (callWork n c x .end)
+  call-is x r (step a) fits = go n fits
     where
-      one : (e : End) → answer (tankOf m st) r e .tank ≡ tankOf m (carry st e)
+      go : (k : ℕ) → (k ≡ 0 → x .design .heaters ≤ maxHeaters) → answered (holding k x) r (step a) ≡ answer (holding k x) r (callWork k (step a) x .end)
+      go zero f = unfold callWork answered stepped in (ap (λ (y : Fixed). answer (tankOf (x .design) (x .state)) r (work y (x .state) a .end)) (fixed-is (x .design) (x .state) (f refl)))
+      go (suc k) f = unfold callWork answered stepped work stepRefusal firstRefusal begin in refl
+
+  tank-is : (x : Held) (r : Report) (c : Call) → answer (holding n x) r (callWork n c x .end) .tank ≡ holding n (carry x (callWork n c x .end))
+  tank-is x r (step a) = go n
+    where
+      one : (e : End Outcome) → answer (holding 0 x) r e .tank ≡ holding 0 (carry x e)
       one (refused k) = unfold answer in refl
       one (done s) = unfold answer in refl
 
-      go : (k : ℕ) → answer (holding m k st) r (workOf m k st (step a) .end) .tank ≡ holding m k (carry st (workOf m k st (step a) .end))
-      go zero = unfold workOf in (one (work (fixedOf m) st a .end))
-      go (suc k) = unfold workOf answer in refl
+      go : (k : ℕ) → answer (holding k x) r (callWork k (step a) x .end) .tank ≡ holding k (carry x (callWork k (step a) x .end))
+      go zero = unfold callWork in (one (work (fixedOf (x .design)) (x .state) a .end))
+      go (suc k) = unfold callWork answer in refl
 
-  answered-tank : (st : State) (r : Report) (x : Call) → answered (holding m n st) r x .tank ≡ holding m n (carry st (workOf m n st x .end))
-  answered-tank st r x = ap (λ (y : Stepped). y .tank) (call-is st r x) ∙ tank-is st r x
+  answered-tank : (x : Held) (r : Report) (c : Call) → Fits x → answered (holding n x) r c .tank ≡ holding n (carry x (callWork n c x .end))
+  answered-tank x r c f = ap (λ (y : Stepped). y .tank) (call-is x r c f) ∙ tank-is x r c
+
+  fits-next : (x : Held) (e : End Outcome) → Fits x → Fits (carry x e)
+  fits-next x (refused k) f = f
+  fits-next x (done s) f = f
 
   -- ---- a list of calls
 
-  carries-on : (calls : List Call) (st : State) (r : Report) (i : ℕ) → i < length calls → getD (answers (holding m n st) r calls) i noAnswer .tank ≡ holding m n (carried st (take (suc i) (run (workOf m n) st calls)))
-  unfolding answers run carried
-  carries-on [] st r i k = absurd (not-suc-le-zero k)
-  carries-on (x ∷ calls) st r zero k = answered-tank st r x
-  carries-on (x ∷ calls) st r (suc i) k = rw (answered-tank st r x) (carries-on calls (carry st (workOf m n st x .end)) (answered (holding m n st) r x .report) i (le-of-suc-le-suc k))
+  -- one call more: its work, and what it leaves to the others
+  abbrev next : Call → Held → Held
+  next c x = carry x (callWork n c x .end)
 
-  last-is : (calls : List Call) (st : State) (r : Report) → lastTank (holding m n st) (answers (holding m n st) r calls) ≡ holding m n (carried st (run (workOf m n) st calls))
-  unfolding answers run carried
-  last-is [] st r = refl
-  last-is (x ∷ calls) st r = rw (answered-tank st r x) (last-is calls (carry st (workOf m n st x .end)) (answered (holding m n st) r x .report))
+  more-works : (c : Call) (calls : List Call) (x : Held) → run (workCall n) (c ∷ calls) x .parts ≡ callWork n c x ∷ run (workCall n) calls (next c x) .parts
+  unfolding workCall
+  more-works c calls x = ap (λ (r : Run Work Held). r .parts) (more-parts (workCall n) (no-number n) c calls x)
 
-  -- what holds of a work and of the answer made from its end holds of each of a list's
-  module _ (Q : Work → Stepped → Type 0) (one : (t : StorageTank) (r : Report) (w : Work) → Q w (answer t r (w .end))) where
-    each : (calls : List Call) (st : State) (r : Report) (i : ℕ) → i < length calls → Q (getD (run (workOf m n) st calls) i noWork) (getD (answers (holding m n st) r calls) i noAnswer)
-    unfolding answers run
-    each [] st r i k = absurd (not-suc-le-zero k)
-    each (x ∷ calls) st r zero k = rw (call-is st r x) (one (holding m n st) r (workOf m n st x))
-    each (x ∷ calls) st r (suc i) k = rw (answered-tank st r x) (each calls (carry st (workOf m n st x .end)) (answered (holding m n st) r x .report) i (le-of-suc-le-suc k))
+  more-held : (c : Call) (calls : List Call) (x : Held) → endedAt x (run (workCall n) (c ∷ calls) x .end) ≡ endedAt (next c x) (run (workCall n) calls (next c x) .end)
+  unfolding workCall
+  more-held = ended-more (workCall n) (no-number n)
+
+  -- what holds of a work, of the answer made from its end, and of what the tank holds then, holds of each of a list's
+  module _ (Q : Work → Stepped → Held → Type 0)
+      (one : (x : Held) (r : Report) (w : Work) → answer (holding n x) r (w .end) .tank ≡ holding n (carry x (w .end)) → Q w (answer (holding n x) r (w .end)) (carry x (w .end))) where
+    each : (calls : List Call) (x : Held) (r : Report) → Fits x → (i : ℕ) → i < length calls
+        → Q (getD (run (workCall n) calls x .parts) i noWork) (getD (answers (holding n x) r calls) i noAnswer) (endedAt x (run (workCall n) (take (suc i) calls) x .end))
+    unfolding answers
+    each [] x r f i k = absurd (not-suc-le-zero k)
+    each (c ∷ calls) x r f zero k = rw (more-works c calls x, more-held c [] x, call-is x r c f) (unfold run in (one x r (callWork n c x) (tank-is x r c)))
+    each (c ∷ calls) x r f (suc i) k =
+        rw (more-works c calls x, more-held c (take (suc i) calls) x, answered-tank x r c f)
+        (each calls (next c x) (answered (holding n x) r c .report) (fits-next x (callWork n c x .end) f) i (le-of-suc-le-suc k))
+
+  last-is : (calls : List Call) (x : Held) (r : Report) → Fits x → lastTank (holding n x) (answers (holding n x) r calls) ≡ holding n (endedAt x (run (workCall n) calls x .end))
+  unfolding answers
+  last-is [] x r f = unfold run in refl
+  last-is (c ∷ calls) x r f =
+      rw (more-held c calls x, answered-tank x r c f) (last-is calls (next c x) (answered (holding n x) r c .report) (fits-next x (callWork n c x .end) f))
 
 -- where make is refused nothing is worked, and no flag goes on
-stays : (m : TankDesign) (k : ℕ) (calls : List Call) (st : State) → carried st (run (workOf m (suc k)) st calls) ≡ st
-unfolding run carried workOf
-stays m k [] st = refl
-stays m k (step a ∷ calls) st = stays m k calls st
+stays : (k : ℕ) (calls : List Call) (x : Held) → endedAt x (run (workCall (suc k)) calls x .end) ≡ x
+unfolding callWork
+stays k [] x = unfold run in refl
+stays k (step a ∷ calls) x = more-held (suc k) (step a) calls x ∙ stays k calls x
 
-held-flags : (m : TankDesign) (n : ℕ) (calls : List Call) → holding m n (carried (start m) (run (workOf m n) (start m) calls)) .flags ≡ carried (start m) (run (workOf m n) (start m) calls) .flags
-held-flags m zero calls = refl
-held-flags m (suc k) calls = sym (ap (λ (st : State). st .flags) (stays m k calls (start m)))
+held-flags : (n : ℕ) (calls : List Call) (m : TankDesign) → let x = endedAt (start m) (run (workCall n) calls (start m) .end) in holding n x .flags ≡ x .state .flags
+held-flags zero calls m = refl
+held-flags (suc k) calls m = sym (ap (λ (x : Held). x .state .flags) (stays k calls (start m)))
 
 -- ---- an answer by where its work ended
 
@@ -155,32 +175,32 @@ NumberIs w y = ((k : ℕ) → w .end ≡ refused k → 0 < k) → AnswersNumber 
 number-one : (t : StorageTank) (r : Report) (w : Work) → NumberIs w (answer t r (w .end))
 number-one t r w above = go (w .end) above
   where
-    go : (e : End) → ((k : ℕ) → e ≡ refused k → 0 < k) → AnswersNumber (record { events = []; turns = []; end = e }) (answer t r e)
+    go : (e : End Outcome) → ((k : ℕ) → e ≡ refused k → 0 < k) → AnswersNumber (record { events = []; turns = []; end = e }) (answer t r e)
     go (refused k) f = unfold answer in (refl, (λ t. absurd t, λ t. let l = f k refl in omega arith))
     go (done s) f = unfold answer in (refl, (λ t. refl, λ t. tt))
 
 -- an accepted step's report has the lines of its work's end
 abbrev LinesAre : Work → Stepped → Type 0
-LinesAre w y = (s : Progress) → w .end ≡ done s → y .report .lines ≡ s .lines
+LinesAre w y = (s : Outcome) → w .end ≡ done s → y .report .lines ≡ s .heated .lines
 
 lines-one : (t : StorageTank) (r : Report) (w : Work) → LinesAre w (answer t r (w .end))
 lines-one t r w s e = rw e (unfold answer in refl)
 
 -- and its totals
 abbrev TotalsAre : Work → Stepped → Type 0
-TotalsAre w y = (s : Progress) → w .end ≡ done s → AnswersTotals s (y .report)
+TotalsAre w y = (s : Outcome) → w .end ≡ done s → AnswersTotals s (y .report)
 
 totals-one : (t : StorageTank) (r : Report) (w : Work) → TotalsAre w (answer t r (w .end))
 totals-one t r w s e = rw e (unfold answer recoverable in (record { energy = refl; used = refl; average = refl; recoverable = refl }))
 
-accepted-done : (e : End) → T (accepted e) → (s : Progress) × (e ≡ done s)
+accepted-done : (e : End Outcome) → T (accepted e) → (s : Outcome) × (e ≡ done s)
 accepted-done (refused n) t = absurd t
 accepted-done (done s) t = (s, refl)
 
 abbrev LinesOf : List Turn → List HeaterLine → Type 0
 LinesOf us lines = All (λ (u : Turn). LineTells u (getD lines (u .heater) zeroLine)) us
 
-lines-reported : (w : Work) (y : Stepped) → LinesAre w y → ((s : Progress) → w .end ≡ done s → AllTold w s) → T (accepted (w .end)) → LinesOf (w .turns) (y .report .lines)
+lines-reported : (w : Work) (y : Stepped) → LinesAre w y → ((s : Outcome) → w .end ≡ done s → AllTold w s) → T (accepted (w .end)) → LinesOf (w .turns) (y .report .lines)
 lines-reported w y same told t =
     let s = accepted-done (w .end) t in
     subst (LinesOf (w .turns)) (sym (same (s .0) (s .1))) (told (s .0) (s .1))
@@ -206,22 +226,22 @@ all-answered (x ∷ calls) t r = ap suc (all-answered calls (answered t r x .tan
 -- ---- the demand
 
 module _ (m : TankDesign) where
-  pub made-is : (made m .number ≡ designRefusal m) × (made m .tank ≡ holding m (designRefusal m) (start m))
+  pub made-is : (made m .number ≡ designRefusal m) × (made m .tank ≡ holding (designRefusal m) (start m))
   unfolding made
   made-is = go (designRefusal m)
     where
-      go : (n : ℕ) → (madeOf m n .number ≡ n) × (madeOf m n .tank ≡ holding m n (start m))
+      go : (n : ℕ) → (madeOf m n .number ≡ n) × (madeOf m n .tank ≡ holding n (start m))
       go zero = unfold madeOf in (refl, refl)
       go (suc n) = unfold madeOf in (refl, refl)
 
   fits : designRefusal m ≡ 0 → m .heaters ≤ maxHeaters
   fits e = made-heaters m e
 
-  fitted-as-given : (n : ℕ) → n ≡ 0 → m .heaters ≤ maxHeaters → FittedAsGiven m (holding m n (start m))
+  fitted-as-given : (n : ℕ) → n ≡ 0 → m .heaters ≤ maxHeaters → FittedAsGiven m (holding n (start m))
   fitted-as-given zero z l = record { given = λ h k. clean-as-given _ _ (fitted-given (m .heaters) h (m .fitted) k (omega arith)); unused = λ h k. fitted-unused (m .heaters) h (m .fitted) k }
   fitted-as-given (suc n) z l = absurd (omega arith)
 
-  no-tank : (n : ℕ) → 0 < n → NoTank (holding m n (start m))
+  no-tank : (n : ℕ) → 0 < n → NoTank (holding n (start m))
   no-tank zero l = absurd (not-suc-le-zero l)
   no-tank (suc n) l = record {
     layers = refl;
@@ -238,32 +258,34 @@ module _ (m : TankDesign) where
   }
 
   pub demand3 : (r : Report) (calls : List Call) → Demand3 m calls (made m) (answers (made m .tank) r calls)
-  unfolding history
   demand3 r calls = rw (made-is .1) (record {
     worked = worked;
-    flags = λ h. rw (last-is m n fits calls (start m) r, held-flags m n calls) (subst (λ (ws : List Work). T (getD (carried (start m) ws .flags) h false) ↔ OnSince h works) (take-all (length calls) works (omega (arith, worked .works-all))) (worked .flags h));
-    supplies = λ i l. supplies-reported m (getD (run (workOf m n) (start m) calls) i noWork) (getD (answers (holding m n (start m)) r calls) i noAnswer) (reported i l) (worked .supplies i l);
+    flags = λ h. unfold heldAfter in (rw (last-is n calls (start m) r fits, held-flags n calls m) (worked .flags h));
+    supplies = λ i l. supplies-reported (designAt m calls i) (workAt m calls i) (getD (answers (holding n (start m)) r calls) i noAnswer) (reported i l) (worked .supplies i l);
     reported = reported;
-    totals = each m n fits TotalsAre totals-one calls (start m) r;
-    numbers = λ i l. each m n fits NumberIs number-one calls (start m) r i l (worked .refusals i l);
-    makes = unfold carried in (made-is .0, refl);
+    totals = λ i l. of-each (λ (w : Work) (y : Stepped) (x : Held). TotalsAre w y) (λ x q w e. totals-one (holding n x) q w) i l;
+    numbers = λ i l. of-each (λ (w : Work) (y : Stepped) (x : Held). NumberIs w y) (λ x q w e. number-one (holding n x) q w) i l (worked .refusals i l);
+    makes = (made-is .0, unfold heldAfter run in refl);
     fitted = λ e. fitted-as-given n e (fits e);
     refused-make = no-tank n;
-    carries = carries-on m n fits calls (start m) r;
-    answers-all = all-answered calls (holding m n (start m)) r;
+    carries = of-each (λ (w : Work) (y : Stepped) (x : Held). y .tank ≡ holding n x) (λ x q w e. e);
+    answers-all = all-answered calls (holding n (start m)) r;
   })
     where
       n : ℕ
       n = designRefusal m
 
-      works : List Work
-      works = run (workOf m n) (start m) calls
-
       worked : HistoryDemand m calls
       worked = history-demand m calls
 
-      reported : (i : ℕ) → i < length calls → let w = getD (run (workOf m n) (start m) calls) i noWork in T (accepted (w .end)) → LinesOf (w .turns) (getD (answers (holding m n (start m)) r calls) i noAnswer .report .lines)
-      reported i l = lines-reported (getD (run (workOf m n) (start m) calls) i noWork) (getD (answers (holding m n (start m)) r calls) i noAnswer) (each m n fits LinesAre lines-one calls (start m) r i l) (worked .reported i l)
+      of-each : (Q : Work → Stepped → Held → Type 0) → ((x : Held) (q : Report) (w : Work) → answer (holding n x) q (w .end) .tank ≡ holding n (carry x (w .end)) → Q w (answer (holding n x) q (w .end)) (carry x (w .end)))
+          → (i : ℕ) → i < length calls → Q (workAt m calls i) (getD (answers (holding n (start m)) r calls) i noAnswer) (heldAt m calls (suc i))
+      of-each Q one = unfold history heldAfter in (each n Q one calls (start m) r fits)
+
+      reported : (i : ℕ) → i < length calls → let w = workAt m calls i in T (accepted (w .end)) → LinesOf (w .turns) (getD (answers (holding n (start m)) r calls) i noAnswer .report .lines)
+      reported i l =
+          lines-reported (workAt m calls i) (getD (answers (holding n (start m)) r calls) i noAnswer)
+          (of-each (λ (w : Work) (y : Stepped) (x : Held). LinesAre w y) (λ x q w e. lines-one (holding n x) q w) i l) (worked .reported i l)
 
   -- ---- the same of whatever was answered, if each answer is what its call promises
 

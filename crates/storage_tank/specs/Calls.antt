@@ -11,9 +11,10 @@ use Rattle.working_order.specs.Order.{maxHeaters}
 use Rattle.tank_model.specs.declared.Heater.{Heater}
 use Rattle.tank_model.specs.declared.TankDesign.{TankDesign}
 use Rattle.tank_model.specs.declared.Step.{Step}
-use Rattle.tank_model.specs.Fixed.{noHeater, fixedOf}
+use Rattle.tank_model.specs.Fixed.{noHeater, zeroHeater, fixedOf}
 use Rattle.tank_model.specs.Checks.{makeRefusal}
-use Rattle.tank_model.specs.Work.{Progress, End, refused, done, recoverable, work}
+use Rattle.tank_model.specs.Run.{End, refused, done}
+use Rattle.tank_model.specs.Work.{Outcome, recoverable, work}
 use Rattle.tank_model.specs.History.{Call, step}
 use Rattle.storage_tank.specs.declared.StorageTank.{StorageTank}
 use Rattle.storage_tank.specs.declared.Report.{Report}
@@ -22,9 +23,6 @@ use Rattle.storage_tank.specs.declared.Stepped.{Stepped}
 use Rattle.storage_tank.specs.Tank.{fixedIn, stateIn}
 
 -- ---- make
-
-abbrev pub zeroHeater : Heater
-zeroHeater = record { rated = zero-f; position = zero-f; «has_thermostat» = false; thermostat = zero-f }
 
 -- an absent thermostat's position is zero
 abbrev pub cleanHeater : Heater → Heater
@@ -80,7 +78,7 @@ made m = madeOf m (makeRefusal (fixedOf m) (m .initial))
 -- ---- step
 
 -- the tank with the layers and the flags that the work left
-abbrev pub steppedTank : StorageTank → Progress → StorageTank
+abbrev pub steppedTank : StorageTank → Outcome → StorageTank
 steppedTank t s = record {
   layers = t .layers;
   volume = t .volume;
@@ -89,23 +87,23 @@ steppedTank t s = record {
   cp = t .cp;
   ambient = t .ambient;
   timestep = t .timestep;
-  temps = s .temps;
+  temps = s .heated .temps;
   heaters = t .heaters;
   fitted = t .fitted;
-  flags = s .flags;
+  flags = s .heated .flags;
 }
 
-abbrev pub reportOf : Progress → Report
+abbrev pub reportOf : Outcome → Report
 reportOf s = record {
-  energy = s .totals .energy;
-  used = s .totals .used;
+  energy = s .drawn .totals .energy;
+  used = s .drawn .totals .used;
   average = s .average;
-  recoverable = recoverable s;
-  lines = s .lines;
+  recoverable = recoverable (s .heated);
+  lines = s .heated .lines;
 }
 
 -- a refused step gives the number and the tank and the report handed in
-unfoldable pub answer : StorageTank → Report → End → Stepped
+unfoldable pub answer : StorageTank → Report → End Outcome → Stepped
 answer t r (refused n) = record { number = n; tank = t; report = r }
 answer t r (done s) = record { number = 0; tank = steppedTank t s; report = reportOf s }
 

@@ -12,17 +12,18 @@ use lib.Ieee.{Float}
 use Rattle.numeric.specs.Double.{zero-f}
 use Rattle.tank_model.specs.declared.Heater.{Heater}
 use Rattle.tank_model.specs.declared.TankDesign.{TankDesign}
-use Rattle.tank_model.specs.Fixed.{State, noHeater}
-use Rattle.tank_model.specs.Work.{Progress, Turn, done, Work, zeroLine}
-use Rattle.tank_model.specs.History.{Call, designRefusal, history}
+use Rattle.tank_model.specs.Fixed.{State, noHeater, zeroHeater}
+use Rattle.tank_model.specs.Run.{done}
+use Rattle.tank_model.specs.Work.{Turn, Outcome, Work, zeroLine}
+use Rattle.tank_model.specs.History.{Call, designRefusal, Held, history}
 use Rattle.tank_model.specs.Members.{All}
 use Rattle.tank_model.specs.Course.{accepted, numberOf, passed, LineTells, recoverableOf}
-use Rattle.tank_model.specs.HistoryDemand.{RightlySupplied, OnSince, workAt, stateAt, HistoryDemand}
+use Rattle.tank_model.specs.HistoryDemand.{RightlySupplied, OnSince, workAt, heldAt, designAt, HistoryDemand}
 use Rattle.storage_tank.specs.declared.StorageTank.{StorageTank}
 use Rattle.storage_tank.specs.declared.Report.{Report}
 use Rattle.storage_tank.specs.declared.Made.{Made}
 use Rattle.storage_tank.specs.declared.Stepped.{Stepped}
-use Rattle.storage_tank.specs.Calls.{zeroHeater, fittedHeaters, zeroTank, answered}
+use Rattle.storage_tank.specs.Calls.{fittedHeaters, zeroTank, answered}
 
 -- ---- of one call's work and what it answered
 
@@ -39,11 +40,11 @@ abbrev pub AnswersLines : Work → Stepped → Type 0
 AnswersLines w x = All (λ (u : Turn). LineTells u (getD (x .report .lines) (u .heater) zeroLine)) (w .turns)
 
 -- the report has the totals that the work came to: energy, volume used, average, and the heaters' losses × 0.75
-pub record AnswersTotals (s : Progress) (r : Report) : Type 0 where
-  pub energy : r .energy ≡ s .totals .energy
-  pub used : r .used ≡ s .totals .used
+pub record AnswersTotals (s : Outcome) (r : Report) : Type 0 where
+  pub energy : r .energy ≡ s .drawn .totals .energy
+  pub used : r .used ≡ s .drawn .totals .used
   pub average : r .average ≡ s .average
-  pub recoverable : r .recoverable ≡ recoverableOf s
+  pub recoverable : r .recoverable ≡ recoverableOf (s .heated)
 
 -- the number answered is that of the work's end, and 0 exactly when the step is accepted
 abbrev pub AnswersNumber : Work → Stepped → Type 0
@@ -58,7 +59,7 @@ abbrev pub lastTank : StorageTank → List Stepped → StorageTank
 lastTank t [] = t
 lastTank t (x ∷ xs) = lastTank (x .tank) xs
 
--- the tank with make's own numbers, and the state st
+-- the tank with the numbers of the design m, and the state st
 abbrev pub tankOf : TankDesign → State → StorageTank
 tankOf m st = record {
   layers = m .layers;
@@ -89,9 +90,9 @@ pub record NoTank (t : StorageTank) : Type 0 where
   pub flags : t .flags ≡ replicate 8 false
 
 -- n: what make is refused for, or 0. A refused make gives a tank of zeros
-abbrev pub holding : TankDesign → ℕ → State → StorageTank
-holding m zero st = tankOf m st
-holding m (suc n) st = zeroTank
+abbrev pub holding : ℕ → Held → StorageTank
+holding zero x = tankOf (x .design) (x .state)
+holding (suc n) x = zeroTank
 
 -- the heater y is x as given, an absent thermostat's position zero
 pub record AsGiven (x y : Heater) : Type 0 where
@@ -113,17 +114,17 @@ pub record Demand3 (m : TankDesign) (calls : List Call) (made : Made) (xs : List
   -- after the list, in the tank that was handed back, a flag is on exactly when 01 says
   pub flags : (h : ℕ) → T (getD (lastTank (made .tank) xs .flags) h false) ↔ OnSince h (history m calls)
   -- every turn, in refused steps too as far as it got, supplied zero if it ran off and never more than its rated power × step length
-  pub supplies : (i : ℕ) → i < length calls → AnswersSupplies m (workAt m calls i) (getD xs i noAnswer)
+  pub supplies : (i : ℕ) → i < length calls → AnswersSupplies (designAt m calls i) (workAt m calls i) (getD xs i noAnswer)
   -- an accepted step's report has at the heater's given place the line of its turn, and the totals of its work
   pub reported : (i : ℕ) → i < length calls → T (accepted (workAt m calls i .end)) → AnswersLines (workAt m calls i) (getD xs i noAnswer)
-  pub totals : (i : ℕ) → i < length calls → (s : Progress) → workAt m calls i .end ≡ done s → AnswersTotals s (getD xs i noAnswer .report)
+  pub totals : (i : ℕ) → i < length calls → (s : Outcome) → workAt m calls i .end ≡ done s → AnswersTotals s (getD xs i noAnswer .report)
   -- the number answered is that of the work's end, and 0 exactly when the step is accepted
   pub numbers : (i : ℕ) → i < length calls → AnswersNumber (workAt m calls i) (getD xs i noAnswer)
-  -- the tanks handed back hold make's own numbers and the state that was worked
-  pub makes : (made .number ≡ designRefusal m) × (made .tank ≡ holding m (designRefusal m) (stateAt m calls 0))
+  -- the tanks handed back hold the design, which stays make's, and the state that was worked
+  pub makes : (made .number ≡ designRefusal m) × (made .tank ≡ holding (designRefusal m) (heldAt m calls 0))
   pub fitted : designRefusal m ≡ 0 → FittedAsGiven m (made .tank)
   pub refused-make : 0 < designRefusal m → NoTank (made .tank)
-  pub carries : (i : ℕ) → i < length calls → getD xs i noAnswer .tank ≡ holding m (designRefusal m) (stateAt m calls (suc i))
+  pub carries : (i : ℕ) → i < length calls → getD xs i noAnswer .tank ≡ holding (designRefusal m) (heldAt m calls (suc i))
   pub answers-all : length xs ≡ length calls
 
 -- what the calls promise of the answers xs, from a tank t and a report r on: each is what its call answers, given what the one before returned

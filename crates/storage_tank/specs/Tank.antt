@@ -4,24 +4,24 @@ use mathlib.Core.Bool.{Bool}
 use mathlib.Core.List.{List}
 use lib.Ieee.{Float}
 use Rattle.cylinder.specs.declared.Cylinder.{Cylinder}
-use Rattle.tank_model.specs.Fixed.{Fixed, State, placedHeaters}
+use Rattle.tank_model.specs.Fixed.{Fixed, State, placedHeaters, fixedBy}
 use Rattle.tank_arrays.specs.Arrays.{fittedIn}
 use Rattle.storage_tank.specs.declared.StorageTank.{StorageTank}
 
 -- what a tank holds
 abbrev pub fixedIn : StorageTank → Fixed
-fixedIn t = record {
-  cylinder = record {
-    layers = t .layers;
-    volume = t .volume;
-    standby = t .standby;
-    rho = t .rho;
-    cp = t .cp;
-    ambient = t .ambient;
-    timestep = t .timestep;
-  };
-  heaters = placedHeaters (t .heaters) (t .fitted);
-}
+fixedIn t =
+    fixedBy
+    (record {
+      layers = t .layers;
+      volume = t .volume;
+      standby = t .standby;
+      rho = t .rho;
+      cp = t .cp;
+      ambient = t .ambient;
+      timestep = t .timestep;
+    })
+    (placedHeaters (t .heaters) (t .fitted))
 
 abbrev pub stateIn : StorageTank → State
 stateIn t = record { temps = t .temps; flags = t .flags }

@@ -7,7 +7,8 @@ ghost use lib.Dec.{ltb};
 ghost use lib.ListN.{drop, replicate};
 ghost use Rattle.numeric.specs.Double.{zero-f};
 ghost use Rattle.mixing.specs.Limits.{maxLayers};
-ghost use Rattle.storage_tank.specs.Calls.{zeroHeater, cleanHeater, fittedHeaters, zeroTank, newTank, made};
+ghost use Rattle.tank_model.specs.Fixed.{zeroHeater};
+ghost use Rattle.storage_tank.specs.Calls.{cleanHeater, fittedHeaters, zeroTank, newTank, made};
 use crate::Made;
 use crate::StorageTank;
 use mixing::limits::MAX_LAYERS;
@@ -27,17 +28,6 @@ fn initial_temps(n: usize, x: f64) -> [f64; MAX_LAYERS]
         k += 1;
     }
     temps
-}
-
-pub fn zero_heater() -> Heater
-    ensures { λ r. ⌜ r ≡ zeroHeater ⌝ }
-{
-    Heater {
-        rated: 0.0,
-        position: 0.0,
-        has_thermostat: false,
-        thermostat: 0.0,
-    }
 }
 
 // An absent thermostat's position is zero.
@@ -60,14 +50,14 @@ fn heater_at(h: usize, n: usize, x: Heater) -> Heater
     if h < n {
         return clean_heater(x);
     }
-    zero_heater()
+    tank_model::zero_heater()
 }
 
 // The first n heaters as given, and zeros past them.
 fn fitted_heaters(n: usize, fitted: [Heater; MAX_HEATERS]) -> [Heater; MAX_HEATERS]
     ensures { λ r. ⌜ r ≡ fittedHeaters n fitted ⌝ }
 {
-    let mut heaters = [zero_heater(); MAX_HEATERS];
+    let mut heaters = [tank_model::zero_heater(); MAX_HEATERS];
     let mut h = 0;
     while h < MAX_HEATERS {
         let x = fitted[h];
@@ -91,7 +81,7 @@ pub fn zero_tank() -> StorageTank
         timestep: 0.0,
         temps: [0.0; MAX_LAYERS],
         heaters: 0,
-        fitted: [zero_heater(); MAX_HEATERS],
+        fitted: [tank_model::zero_heater(); MAX_HEATERS],
         flags: [false; MAX_HEATERS],
     }
 }

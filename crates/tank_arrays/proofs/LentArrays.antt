@@ -14,8 +14,8 @@ use Rattle.numeric.specs.Double.{zero-f}
 use Rattle.numeric.specs.Tabulate.{tabulate, tabulate-same, length-tabulate, at-tabulate}
 use Rattle.heating.specs.declared.SetPoints.{SetPoints}
 use Rattle.heating.specs.declared.SetPoints.the-variants.{Neither, Lower, Upper, Both}
-use Rattle.heating.specs.Switch.{hasUpper, upperOf}
-use Rattle.working_order.specs.Order.{maxHeaters}
+use Rattle.heating.specs.SetPoints.{hasUpper, upperOf}
+use Rattle.working_order.specs.Order.{maxHeaters, threeEach}
 use Rattle.tank_model.specs.declared.Heater.{Heater}
 use Rattle.tank_model.specs.declared.HeaterLine.{HeaterLine}
 use Rattle.tank_model.specs.declared.Setting.{Setting}
@@ -23,7 +23,7 @@ use Rattle.tank_model.specs.declared.Step.{Step}
 use Rattle.tank_model.specs.Fixed.{noHeater}
 use Rattle.tank_model.specs.Checks.{noSetting}
 use Rattle.tank_model.specs.Work.{zeroLine}
-use Rattle.tank_arrays.specs.Arrays.{heaterIn, fittedIn, heatersOf, thermostatsOf, pointsIn, settingIn, settingsIn, hasLower, lowerOf, presentOf, setPointsOf, lineIn, linesIn, HoldsLines, ZeroLines, stepWith}
+use Rattle.tank_arrays.specs.Arrays.{twoEach, heaterIn, fittedIn, heatersOf, thermostatsOf, pointsIn, settingIn, settingsIn, hasLower, lowerOf, presentOf, setPointsOf, lineIn, linesIn, HoldsLines, ZeroLines, stepWith}
 
 -- ---- a list is the list of its places
 
@@ -56,7 +56,7 @@ setting-read ps xs h l = at-tabulate (settingIn ps xs) maxHeaters h noSetting l
 
 pub heaters-back : (xs : List Heater) → length xs ≡ maxHeaters → fittedIn (heatersOf xs) (thermostatsOf xs) ≡ xs
 unfolding fittedIn heatersOf thermostatsOf tabulate
-heaters-back xs e = places noHeater 8 xs e
+heaters-back xs e = places noHeater maxHeaters xs e
 
 points-back : (p : SetPoints) → pointsIn (hasLower p) (hasUpper p) (lowerOf p) (upperOf p) ≡ p
 unfolding pointsIn hasLower hasUpper lowerOf upperOf
@@ -87,7 +87,7 @@ step-back a present points e f l = rw (e, f, settings-back (a .settings) l)
 pub zeros-hold : (xs : List Float) (bs : List Bool) (ns : List ℕ) → ZeroLines xs bs ns → HoldsLines xs bs ns
 zeros-hold xs bs ns z = record { figures-long = rw (z .figures-zero); flags-long = rw (z .flags-zero); rounds-long = rw (z .rounds-zero) }
 
-pub zero-lines : linesIn (replicate 24 zero-f) (replicate 8 false) (replicate 8 0) ≡ replicate maxHeaters zeroLine
+pub zero-lines : linesIn (replicate threeEach zero-f) (replicate maxHeaters false) (replicate maxHeaters 0) ≡ replicate maxHeaters zeroLine
 unfolding linesIn tabulate
 zero-lines = refl
 
@@ -95,7 +95,7 @@ zero-lines = refl
 
 module _ (xs : List Float) (bs : List Bool) (ns : List ℕ) (h : ℕ) (x : HeaterLine) (l : h < maxHeaters) (long : HoldsLines xs bs ns) where
   abbrev figures : List Float
-  figures = set (set (set xs h (x .adjusted)) (8 + h) (x .supplied)) (16 + h) (x .losses)
+  figures = set (set (set xs h (x .adjusted)) (maxHeaters + h) (x .supplied)) (twoEach + h) (x .losses)
 
   abbrev flags : List Bool
   flags = set bs h (x .flag)
@@ -107,29 +107,29 @@ module _ (xs : List Float) (bs : List Bool) (ns : List ℕ) (h : ℕ) (x : Heate
   lines = set (linesIn xs bs ns) h x
 
   -- what stands at the place j, of those that hold h's line and of the others
-  figure-other : (j : ℕ) → j ≢ h → j ≢ 8 + h → j ≢ 16 + h → getD figures j nan ≡ getD xs j nan
+  figure-other : (j : ℕ) → j ≢ h → j ≢ maxHeaters + h → j ≢ twoEach + h → getD figures j nan ≡ getD xs j nan
   figure-other j p q r =
-      getD-set-other (set (set xs h (x .adjusted)) (8 + h) (x .supplied)) (16 + h) j (x .losses) nan r
-      ∙ getD-set-other (set xs h (x .adjusted)) (8 + h) j (x .supplied) nan q
+      getD-set-other (set (set xs h (x .adjusted)) (maxHeaters + h) (x .supplied)) (twoEach + h) j (x .losses) nan r
+      ∙ getD-set-other (set xs h (x .adjusted)) (maxHeaters + h) j (x .supplied) nan q
       ∙ getD-set-other xs h j (x .adjusted) nan p
 
   adjusted-read : getD figures h nan ≡ x .adjusted
   adjusted-read =
-      getD-set-other (set (set xs h (x .adjusted)) (8 + h) (x .supplied)) (16 + h) h (x .losses) nan (λ e. omega arith)
-      ∙ getD-set-other (set xs h (x .adjusted)) (8 + h) h (x .supplied) nan (λ e. omega arith)
+      getD-set-other (set (set xs h (x .adjusted)) (maxHeaters + h) (x .supplied)) (twoEach + h) h (x .losses) nan (λ e. omega arith)
+      ∙ getD-set-other (set xs h (x .adjusted)) (maxHeaters + h) h (x .supplied) nan (λ e. omega arith)
       ∙ getD-set-same xs h (x .adjusted) nan (omega (arith, long .figures-long))
 
-  supplied-read : getD figures (8 + h) nan ≡ x .supplied
+  supplied-read : getD figures (maxHeaters + h) nan ≡ x .supplied
   supplied-read =
       let k = length-set xs h (x .adjusted) in
-      getD-set-other (set (set xs h (x .adjusted)) (8 + h) (x .supplied)) (16 + h) (8 + h) (x .losses) nan (λ e. omega arith)
-      ∙ getD-set-same (set xs h (x .adjusted)) (8 + h) (x .supplied) nan (omega (arith, long .figures-long))
+      getD-set-other (set (set xs h (x .adjusted)) (maxHeaters + h) (x .supplied)) (twoEach + h) (maxHeaters + h) (x .losses) nan (λ e. omega arith)
+      ∙ getD-set-same (set xs h (x .adjusted)) (maxHeaters + h) (x .supplied) nan (omega (arith, long .figures-long))
 
-  losses-read : getD figures (16 + h) nan ≡ x .losses
+  losses-read : getD figures (twoEach + h) nan ≡ x .losses
   losses-read =
       let k = length-set xs h (x .adjusted) in
-      let m = length-set (set xs h (x .adjusted)) (8 + h) (x .supplied) in
-      getD-set-same (set (set xs h (x .adjusted)) (8 + h) (x .supplied)) (16 + h) (x .losses) nan (omega (arith, long .figures-long))
+      let m = length-set (set xs h (x .adjusted)) (maxHeaters + h) (x .supplied) in
+      getD-set-same (set (set xs h (x .adjusted)) (maxHeaters + h) (x .supplied)) (twoEach + h) (x .losses) nan (omega (arith, long .figures-long))
 
   lines-long : length (linesIn xs bs ns) ≡ maxHeaters
   unfolding linesIn
@@ -149,8 +149,8 @@ module _ (xs : List Float) (bs : List Bool) (ns : List ℕ) (h : ℕ) (x : Heate
   unfolding linesIn
   other-line j m o = rw (
     figure-other j o (λ e. omega arith) (λ e. omega arith),
-    figure-other (8 + j) (λ e. omega arith) (λ e. let same : j ≡ h = omega arith in o same) (λ e. omega arith),
-    figure-other (16 + j) (λ e. omega arith) (λ e. omega arith) (λ e. let same : j ≡ h = omega arith in o same),
+    figure-other (maxHeaters + j) (λ e. omega arith) (λ e. let same : j ≡ h = omega arith in o same) (λ e. omega arith),
+    figure-other (twoEach + j) (λ e. omega arith) (λ e. omega arith) (λ e. let same : j ≡ h = omega arith in o same),
     getD-set-other bs h j (x .flag) false o,
     getD-set-other ns h j (x .rounds) 0 o,
     getD-set-other (tabulate (lineIn xs bs ns) maxHeaters 0) h j x zeroLine o,
@@ -172,7 +172,7 @@ module _ (xs : List Float) (bs : List Bool) (ns : List ℕ) (h : ℕ) (x : Heate
 
   pub line-holds : HoldsLines figures flags rounds
   line-holds = record {
-    figures-long = length-set (set (set xs h (x .adjusted)) (8 + h) (x .supplied)) (16 + h) (x .losses) ∙ length-set (set xs h (x .adjusted)) (8 + h) (x .supplied) ∙ length-set xs h (x .adjusted) ∙ long .figures-long;
+    figures-long = length-set (set (set xs h (x .adjusted)) (maxHeaters + h) (x .supplied)) (twoEach + h) (x .losses) ∙ length-set (set xs h (x .adjusted)) (maxHeaters + h) (x .supplied) ∙ length-set xs h (x .adjusted) ∙ long .figures-long;
     flags-long = length-set bs h (x .flag) ∙ long .flags-long;
     rounds-long = length-set ns h (x .rounds) ∙ long .rounds-long;
   }

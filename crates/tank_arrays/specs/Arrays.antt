@@ -1,6 +1,6 @@
 -- States how heaters, a step's set points and a report's lines stand in plain arrays (01, The four calls; Tank): what a step lends to its parts, and what the
 -- exported calls are lent.
-use Prim.Native.Nat.{ℕ, _+_}
+use Prim.Native.Nat.{ℕ, _+_, _*_}
 use mathlib.Core.Path.{_≡_}
 use mathlib.Core.Bool.{Bool, true, false}
 use mathlib.Core.List.{List, _++_}
@@ -11,19 +11,28 @@ use Rattle.numeric.specs.Tabulate.{tabulate}
 use Rattle.cylinder.specs.declared.Cylinder.{Cylinder}
 use Rattle.heating.specs.declared.SetPoints.{SetPoints}
 use Rattle.heating.specs.declared.SetPoints.the-variants.{Neither, Lower, Upper, Both}
-use Rattle.heating.specs.Switch.{hasUpper, upperOf}
-use Rattle.working_order.specs.Order.{maxHeaters}
+use Rattle.heating.specs.SetPoints.{hasUpper, upperOf}
+use Rattle.working_order.specs.Order.{maxHeaters, threeEach, positionIn}
 use Rattle.tank_model.specs.declared.Heater.{Heater}
 use Rattle.tank_model.specs.declared.HeaterLine.{HeaterLine}
 use Rattle.tank_model.specs.declared.Setting.{Setting}
 use Rattle.tank_model.specs.declared.Step.{Step}
-use Rattle.tank_model.specs.Fixed.{noHeater, Fixed, placedHeaters}
+use Rattle.tank_model.specs.Fixed.{noHeater, Fixed, placedHeaters, fixedBy}
 use Rattle.tank_model.specs.Checks.{noSetting}
+
+-- a number for each heater, two of them one after the other: `TWO_EACH` of the code
+abbrev pub twoEach : ℕ
+twoEach = 2 * maxHeaters
 
 -- ---- heaters: rated powers, then positions, then thermostat positions; and whether a thermostat has a position of its own
 
 abbrev pub heaterIn : List Float → List Bool → ℕ → Heater
-heaterIn xs bs h = record { rated = getD xs h nan; position = getD xs (8 + h) nan; «has_thermostat» = getD bs h false; thermostat = getD xs (16 + h) nan }
+heaterIn xs bs h = record {
+  rated = getD xs h nan;
+  position = positionIn xs h;
+  «has_thermostat» = getD bs h false;
+  thermostat = getD xs (twoEach + h) nan;
+}
 
 unfoldable pub fittedIn : List Float → List Bool → List Heater
 fittedIn xs bs = tabulate (heaterIn xs bs) maxHeaters 0
@@ -46,7 +55,10 @@ pointsIn true false lower upper = Lower lower
 pointsIn true true lower upper = Both lower upper
 
 abbrev pub settingIn : List Bool → List Float → ℕ → Setting
-settingIn present points h = record { points = pointsIn (getD present h false) (getD present (8 + h) false) (getD points h nan) (getD points (8 + h) nan) }
+settingIn present points h =
+    let lower = getD points h nan in
+    let upper = getD points (maxHeaters + h) nan in
+    record { points = pointsIn (getD present h false) (getD present (maxHeaters + h) false) lower upper }
 
 unfoldable pub settingsIn : List Bool → List Float → List Setting
 settingsIn present points = tabulate (settingIn present points) maxHeaters 0
@@ -77,27 +89,33 @@ setPointsOf xs =
 -- ---- a report's lines: adjusted inputs, then energies supplied, then losses; their flags; their rounds
 
 abbrev pub lineIn : List Float → List Bool → List ℕ → ℕ → HeaterLine
-lineIn xs flags rounds h = record { flag = getD flags h false; adjusted = getD xs h nan; supplied = getD xs (8 + h) nan; losses = getD xs (16 + h) nan; rounds = getD rounds h 0 }
+lineIn xs flags rounds h = record {
+  flag = getD flags h false;
+  adjusted = getD xs h nan;
+  supplied = getD xs (maxHeaters + h) nan;
+  losses = getD xs (twoEach + h) nan;
+  rounds = getD rounds h 0;
+}
 
 unfoldable pub linesIn : List Float → List Bool → List ℕ → List HeaterLine
 linesIn xs flags rounds = tabulate (lineIn xs flags rounds) maxHeaters 0
 
 -- arrays of the lengths that hold a line for each heater
 pub record HoldsLines (figures : List Float) (flags : List Bool) (rounds : List ℕ) : Type 0 where
-  pub figures-long : length figures ≡ 24
-  pub flags-long : length flags ≡ 8
-  pub rounds-long : length rounds ≡ 8
+  pub figures-long : length figures ≡ threeEach
+  pub flags-long : length flags ≡ maxHeaters
+  pub rounds-long : length rounds ≡ maxHeaters
 
 -- arrays that hold zeros
 pub record ZeroLines (figures : List Float) (flags : List Bool) (rounds : List ℕ) : Type 0 where
-  pub figures-zero : figures ≡ replicate 24 zero-f
-  pub flags-zero : flags ≡ replicate 8 false
-  pub rounds-zero : rounds ≡ replicate 8 0
+  pub figures-zero : figures ≡ replicate threeEach zero-f
+  pub flags-zero : flags ≡ replicate maxHeaters false
+  pub rounds-zero : rounds ≡ replicate maxHeaters 0
 
 -- ---- what is fixed, and a step, from their numbers and arrays
 
 abbrev pub fixedWith : Cylinder → ℕ → List Float → List Bool → Fixed
-fixedWith c n heaters thermostats = record { cylinder = c; heaters = placedHeaters n (fittedIn heaters thermostats) }
+fixedWith c n heaters thermostats = fixedBy c (placedHeaters n (fittedIn heaters thermostats))
 
 abbrev pub stepWith : Float → ℕ → List Float → ℕ → List Bool → List Float → Step
 stepWith feed events volumes entries present points = record {

@@ -1,12 +1,14 @@
 // Heaters, set points and a report's lines in plain arrays: a step lends these to its parts, where structs would be copied.
 ghost use mathlib.Core.Path.{_≡_};
-ghost use Prim.Native.Nat.{_+_, _<_};
-ghost use lib.ListN.{getD, length, set};
-ghost use Rattle.heating.specs.Switch.{hasUpper, upperOf};
+ghost use Prim.Native.Nat.{_<_};
+ghost use lib.ListN.{getD, length};
+ghost use Rattle.heating.specs.SetPoints.{hasUpper, upperOf};
 ghost use Rattle.working_order.specs.Order.{maxHeaters};
 ghost use Rattle.tank_model.specs.Fixed.{noHeater};
 ghost use Rattle.tank_model.specs.Checks.{noSetting};
-ghost use Rattle.tank_arrays.specs.Arrays.{fittedIn, heatersOf, thermostatsOf, pointsIn, settingsIn, hasLower, lowerOf, presentOf, setPointsOf, lineIn, linesIn, HoldsLines};
+ghost use Rattle.tank_arrays.specs.Arrays.{fittedIn, heatersOf, thermostatsOf, pointsIn, settingsIn, hasLower, lowerOf, presentOf, setPointsOf};
+ghost use Rattle.tank_arrays.specs.Arrays.{lineIn, linesIn, HoldsLines};
+ghost use Rattle.tank_arrays.specs.Contracts.{LineWritten};
 use heating::SetPoints;
 use tank_model::Heater;
 use tank_model::HeaterLine;
@@ -14,9 +16,9 @@ use tank_model::Setting;
 use working_order::MAX_HEATERS;
 
 // A number for each heater, three of them one after the other; and two of them.
-pub const THREE_EACH: usize = 24;
+pub const THREE_EACH: usize = working_order::THREE_EACH;
 
-pub const TWO_EACH: usize = 16;
+pub const TWO_EACH: usize = 2 * MAX_HEATERS;
 
 // The heater h: rated powers stand first, then positions, then thermostat positions.
 pub fn heater_at(heaters: &[f64; THREE_EACH], thermostats: &[bool; MAX_HEATERS], h: usize) -> Heater
@@ -25,9 +27,9 @@ pub fn heater_at(heaters: &[f64; THREE_EACH], thermostats: &[bool; MAX_HEATERS],
 {
     Heater {
         rated: heaters[h],
-        position: heaters[8 + h],
+        position: heaters[MAX_HEATERS + h],
         has_thermostat: thermostats[h],
-        thermostat: heaters[16 + h],
+        thermostat: heaters[TWO_EACH + h],
     }
 }
 
@@ -52,7 +54,12 @@ pub fn points_at(present: &[bool; TWO_EACH], points: &[f64; TWO_EACH], h: usize)
     requires { ⌜ h < maxHeaters ⌝ }
     ensures { λ r. ⌜ r ≡ getD (settingsIn (now (present .entry)) (now (points .entry))) h noSetting .points ⌝ }
 {
-    points_in(present[h], present[8 + h], points[h], points[8 + h])
+    points_in(
+        present[h],
+        present[MAX_HEATERS + h],
+        points[h],
+        points[MAX_HEATERS + h],
+    )
 }
 
 // What a turn reports of the heater h: adjusted inputs stand first, then energies supplied, then losses.
@@ -64,11 +71,12 @@ pub fn write_line(
     rounds: &mut [usize; MAX_HEATERS],
 )
     requires { ⌜ (h < maxHeaters) × HoldsLines (now figures) (now flags) (now rounds) ⌝ }
-    ensures { λ r. ⌜ (linesIn (now (figures .exit)) (now (flags .exit)) (now (rounds .exit)) ≡ set (linesIn (now (figures .entry)) (now (flags .entry)) (now (rounds .entry))) h x) × HoldsLines (now (figures .exit)) (now (flags .exit)) (now (rounds .exit)) ⌝ }
+    ensures { λ r. ⌜ LineWritten h x (linesIn (now (figures .entry)) (now (flags .entry)) (now (rounds .entry)))
+        (now (figures .exit)) (now (flags .exit)) (now (rounds .exit)) ⌝ }
 {
     figures[h] = x.adjusted;
-    figures[8 + h] = x.supplied;
-    figures[16 + h] = x.losses;
+    figures[MAX_HEATERS + h] = x.supplied;
+    figures[TWO_EACH + h] = x.losses;
     flags[h] = x.flag;
     rounds[h] = x.rounds;
 }
@@ -153,7 +161,7 @@ fn has_upper(x: Setting) -> bool
     ensures { λ r. ⌜ r ≡ hasUpper (x .points) ⌝ }
 {
     let p = x.points;
-    heating::switch::has_upper(p)
+    heating::set_points::has_upper(p)
 }
 
 // The lower set point, not-a-number where there is none.
@@ -174,7 +182,7 @@ fn upper_of(x: Setting) -> f64
     ensures { λ r. ⌜ r ≡ upperOf (x .points) ⌝ }
 {
     let p = x.points;
-    heating::switch::upper_of(p)
+    heating::set_points::upper_of(p)
 }
 
 // Whether the set points are present: the lower ones first, then the upper ones.
@@ -253,8 +261,8 @@ fn line_in(
     HeaterLine {
         flag: flags[h],
         adjusted: xs[h],
-        supplied: xs[8 + h],
-        losses: xs[16 + h],
+        supplied: xs[MAX_HEATERS + h],
+        losses: xs[TWO_EACH + h],
         rounds: rounds[h],
     }
 }

@@ -1,20 +1,21 @@
-// What make and a step are refused for before they work: the first of the checks 1 to 8 that does not pass, and 0 where all pass.
+// What make and a step are refused for before they work: the first of the checks 1 to 8 that does not pass, and 0 where all pass. A check more is a line more in
+// the function that goes through them.
 ghost use mathlib.Core.Path.{_≡_};
-ghost use mathlib.Core.Bool.{Bool, _&&_};
-ghost use mathlib.Core.List.{List, [], _∷_};
-ghost use Prim.Native.Nat.{ℕ, _≤_};
-ghost use lib.Dec.{leb, eqb};
-ghost use lib.ListN.{getD};
-ghost use Rattle.numeric.specs.Holds.{holds};
-ghost use Rattle.draw_off.specs.Lent.{maxEvents};
+ghost use mathlib.Core.Bool.{_&&_};
+ghost use Prim.Native.Nat.{_≤_};
+ghost use lib.Dec.{leb};
+ghost use Rattle.mixing.specs.Limits.{maxLayers};
+ghost use Rattle.cylinder.specs.Layers.{allFinite};
 ghost use Rattle.working_order.specs.Order.{maxHeaters};
-ghost use Rattle.tank_model.specs.Fixed.{placed, noHeater, fixedOf};
-ghost use Rattle.tank_model.specs.Checks.{unless, firstRefusal, fairHeater, layersCheck, numbersCheck, temperaturesCheck, feedCheck, pointsCheck, makeRefusal, stepRefusal};
-ghost use Rattle.tank_arrays.specs.Arrays.{fittedIn, fixedWith, stepWith};
+ghost use Rattle.tank_model.specs.Fixed.{fixedOf};
+ghost use Rattle.tank_model.specs.FirstRefusal.{firstRefusal};
+ghost use Rattle.tank_model.specs.Checks.{tankChecks, makeRefusal};
+ghost use Rattle.tank_arrays.specs.Arrays.{fixedWith, stepWith};
+ghost use Rattle.tank_arrays.specs.Contracts.{FirstOfStep, RefusedFor};
 use crate::arrays::THREE_EACH;
 use crate::arrays::TWO_EACH;
 use cylinder::Cylinder;
-use draw_off::event::MAX_EVENTS;
+use draw_events::event::MAX_EVENTS;
 use mixing::limits::MAX_LAYERS;
 use tank_model::TankDesign;
 use working_order::MAX_HEATERS;
@@ -33,50 +34,37 @@ pub fn cylinder_of(m: TankDesign) -> Cylinder
     }
 }
 
-// 1 to 3.
-fn first_checks(c: Cylinder, heaters: usize) -> u8
-    ensures { λ r. ⌜ r ≡ firstRefusal (layersCheck c ∷ unless (leb heaters maxHeaters) 2 ∷ numbersCheck c ∷ []) ⌝ }
-{
-    if c.layers < 1 {
-        return 1;
-    }
-    if c.layers > MAX_LAYERS {
-        return 1;
-    }
-    if heaters > MAX_HEATERS {
-        return 2;
-    }
-    crate::checks::numbers_check(c)
-}
-
-// 4 and 5, where the initial temperature, or each stored layer, is finite or not.
-fn last_checks(
+// 1 to 5, in order.
+fn tank_refusal(
     c: Cylinder,
     n: usize,
     heaters: &[f64; THREE_EACH],
     thermostats: &[bool; MAX_HEATERS],
     temps: bool,
 ) -> u8
-    requires { ⌜ n ≤ maxHeaters ⌝ }
-    ensures { λ r. ⌜ r ≡ firstRefusal (temperaturesCheck c temps ∷ unless (holds (λ (h : ℕ). fairHeater (placed (getD (fittedIn (now (heaters .entry)) (now (thermostats .entry))) h noHeater))) n 0) 5 ∷ []) ⌝ }
+    ensures { λ r. ⌜ r ≡ firstRefusal (tankChecks (fixedWith c n (now (heaters .entry)) (now (thermostats .entry))) temps) ⌝ }
 {
-    if !crate::checks::is_not_negative(c.standby) {
-        return 4;
+    let layers = crate::checks::layers_check(c);
+    if layers != 0 {
+        return layers;
     }
-    if !numeric::compare::is_finite(c.ambient) {
-        return 4;
+    let count = crate::checks::heaters_check(n, 0);
+    if count != 0 {
+        return count;
     }
-    if !temps {
-        return 4;
+    let numbers = crate::checks::numbers_check(c);
+    if numbers != 0 {
+        return numbers;
     }
-    if !crate::checks::are_fair_heaters(n, heaters, thermostats) {
-        return 5;
+    let temperatures = crate::checks::temperatures_check(c, temps);
+    if temperatures != 0 {
+        return temperatures;
     }
-    0
+    crate::checks::places_check(n, heaters, thermostats)
 }
 
-// 6 to 8.
-fn step_checks(
+// 6 to 8, in order, of any tank of n heaters.
+fn step_refusal(
     n: usize,
     feed: f64,
     events: usize,
@@ -86,39 +74,38 @@ fn step_checks(
     points: &[f64; TWO_EACH],
 ) -> u8
     requires { ⌜ n ≤ maxHeaters ⌝ }
-    ensures { λ r. ⌜ r ≡ firstRefusal (unless (leb events maxEvents && eqb entries n) 6 ∷ feedCheck (stepWith feed events (now (volumes .entry)) entries (now (present .entry)) (now (points .entry))) ∷ pointsCheck (stepWith feed events (now (volumes .entry)) entries (now (present .entry)) (now (points .entry))) ∷ []) ⌝ }
+    ensures { λ r. ⌜ FirstOfStep n (stepWith feed events (now (volumes .entry)) entries (now (present .entry)) (now (points .entry))) r ⌝ }
 {
-    if events > MAX_EVENTS {
-        return 6;
+    let counts = crate::checks::counts_check(n, events, entries);
+    if counts != 0 {
+        return counts;
     }
-    if entries != n {
-        return 6;
+    let draws = crate::checks::draws_check(feed, events, volumes);
+    if draws != 0 {
+        return draws;
     }
-    if !numeric::compare::is_finite(feed) {
-        return 7;
-    }
-    if !crate::checks::are_fair_volumes(events, volumes) {
-        return 7;
-    }
-    if !crate::checks::are_fair_settings(n, present, points) {
-        return 8;
-    }
-    0
+    crate::checks::settings_check(entries, present, points)
 }
 
 pub fn make_refusal(m: TankDesign) -> u8
     ensures { λ r. ⌜ r ≡ makeRefusal (fixedOf m) (m .initial) ⌝ }
 {
     let c = cylinder_of(m);
-    let n = first_checks(c, m.heaters);
-    if n != 0 {
-        return n;
-    }
     let fitted = m.fitted;
     let heaters = crate::arrays::heaters_of(fitted);
     let thermostats = crate::arrays::thermostats_of(fitted);
     let temps = numeric::compare::is_finite(m.initial);
-    last_checks(c, m.heaters, &heaters, &thermostats, temps)
+    tank_refusal(c, m.heaters, &heaters, &thermostats, temps)
+}
+
+// The layers are no more than there can be, and each is finite.
+fn are_stored_finite(n: usize, temps: &[f64; MAX_LAYERS]) -> bool
+    ensures { λ r. ⌜ r ≡ (leb n maxLayers && allFinite n (now (temps .entry))) ⌝ }
+{
+    if n > MAX_LAYERS {
+        return false;
+    }
+    cylinder::are_finite(n, temps)
 }
 
 // Of a tank of n heaters and a step, in lent arrays.
@@ -135,16 +122,13 @@ pub fn lent_refusal(
     present: &[bool; TWO_EACH],
     points: &[f64; TWO_EACH],
 ) -> u8
-    ensures { λ r. ⌜ ((flags : List Bool) → r ≡ stepRefusal (fixedWith c n (now (heaters .entry)) (now (thermostats .entry))) (record { temps = now (temps .entry); flags = flags }) (stepWith feed events (now (volumes .entry)) entries (now (present .entry)) (now (points .entry)))) ⌝ }
+    ensures { λ r. ⌜ RefusedFor (fixedWith c n (now (heaters .entry)) (now (thermostats .entry))) (now (temps .entry))
+        (stepWith feed events (now (volumes .entry)) entries (now (present .entry)) (now (points .entry))) r ⌝ }
 {
-    let k = first_checks(c, n);
+    let finite = are_stored_finite(c.layers, temps);
+    let k = tank_refusal(c, n, heaters, thermostats, finite);
     if k != 0 {
         return k;
     }
-    let finite = cylinder::are_finite(c.layers, temps);
-    let l = last_checks(c, n, heaters, thermostats, finite);
-    if l != 0 {
-        return l;
-    }
-    step_checks(n, feed, events, volumes, entries, present, points)
+    step_refusal(n, feed, events, volumes, entries, present, points)
 }

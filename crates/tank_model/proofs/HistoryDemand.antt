@@ -1,37 +1,36 @@
 -- Proves what demand 3 says of the history of every list of calls (00, demand 3; 01, Turn): it holds of each call's work, and each begins where the one before ended.
-use mathlib.Core.Path.{_≡_, refl, sym, ap, _∙_, subst}
+use mathlib.Core.Path.{_≡_, refl, sym, _∙_}
 use mathlib.Core.Logic.{_↔_}
 use mathlib.Core.List.{List, [], _∷_}
 use mathlib.Core.Bool.{Bool, true, false, not, _&&_}
 use Prim.Native.Nat.{ℕ, zero, suc, _+_, _-_, _<_, _≤_}
-use native.Mathlib.Nat.{le-of-suc-le-suc, not-suc-le-zero}
+use native.Mathlib.Nat.{not-suc-le-zero}
 use native.Mathlib.Omega.{arith}
 use lib.Dec.{T, eqb, eqb→eq, leb, leb→le, lit<}
 use lib.ListN.{length, getD, take, drop, replicate, length-append, length-replicate, length-drop, getD-replicate, List·getD-append}
-use lib.Seq.{take-all, getD-append-add, getD-drop}
+use lib.Seq.{getD-append-add, getD-drop}
 use lib.Ieee.{Float, nan}
 use lib.Ieee.Scale.{finite}
 use lib.Ieee.Fits.{and-l, and-r, and-i, eq→eqb}
 use Rattle.numeric.specs.Double.{zero-f}
-use Rattle.heating.specs.SwitchLaws.{latched}
+use Rattle.immersion_heater.specs.SwitchLaws.{latched}
 use Rattle.working_order.specs.Order.{maxHeaters}
 use Rattle.tank_model.specs.declared.TankDesign.{TankDesign}
-use Rattle.tank_model.specs.declared.Step.{Step}
-use Rattle.tank_model.specs.Fixed.{State, fixedOf}
-use Rattle.tank_model.specs.Order.{workingOrder}
+use Rattle.tank_model.specs.Fixed.{fixedOf}
 use Rattle.tank_model.specs.Checks.{makeRefusal}
-use Rattle.tank_model.specs.Work.{Progress, Turn, End, refused, done, Work, lineOf, zeroLine, opening}
-use Rattle.tank_model.specs.History.{Call, step, designRefusal, start, carry, carried, workOf, run, history}
-use Rattle.tank_model.specs.Course.{accepted, LineTells}
+use Rattle.tank_model.specs.Run.{End, refused, done, endedAt, run}
+use Rattle.tank_model.specs.Work.{Turn, Outcome, Work, stop, work}
+use Rattle.tank_model.specs.History.{Call, step, designRefusal, Held, start, carry, callWork, workCall, history, heldAfter}
+use Rattle.tank_model.specs.Course.{accepted}
 use Rattle.tank_model.specs.HistoryDemand.{Began, Ended, InTurn, MixedOrNine, AllRightlySupplied, AllTold, RefusedWithOne, noWork, noCall, OnSince, Starts, Carries, CourseOf, HistoryDemand}
 use Rattle.tank_model.proofs.Latch.{latchedBy, latched-since}
-use Rattle.tank_model.proofs.Members.{any, any→Some, Some→any, all-map}
+use Rattle.tank_model.proofs.Members.{any, any→Some, Some→any}
 use Rattle.tank_model.proofs.Order.{in-working-order}
 use Rattle.tank_model.proofs.Refusals.{make-refused-as}
-use Rattle.tank_model.proofs.Parts.{line-tells}
-use Rattle.tank_model.proofs.Steps.{Reach, Meets, Law, ofHeater, began, ended, nothing-latched}
-use Rattle.tank_model.proofs.TurnFacts.{Right, lower-says, reached-says}
-use Rattle.tank_model.proofs.Works.{tank-passes, work-meets}
+use Rattle.tank_model.proofs.Run.{more-parts, run-length, ended-more, run-each}
+use Rattle.tank_model.proofs.Steps.{ofHeater, began, ended, nothing-latched, Says, no-turns-say, course-says, course-mixes}
+use Rattle.tank_model.proofs.TurnFacts.{lower-says, reached-says}
+use Rattle.tank_model.proofs.Passes.{tank-passes}
 use Rattle.tank_model.proofs.Course.{work-course}
 
 -- ---- 'in an accepted step the heater's turn ..', as a test
@@ -76,96 +75,85 @@ flags-on h ws =
 
 -- ---- one call's work, from a state with a flag for each heater
 
-module _ (m : TankDesign) (n : ℕ) where
-  abbrev Long : State → Type 0
-  Long st = length (st .flags) ≡ maxHeaters
+module _ (n : ℕ) where
+  abbrev Long : Held → Type 0
+  Long x = length (x .state .flags) ≡ maxHeaters
 
-  abbrev stepArguments : Call → Step
-  stepArguments (step a) = a
-
-  abbrev LawOf : State → List Turn → Progress → Type 0
-  LawOf st = Law (workingOrder (fixedOf m)) (opening st)
-
-  meets : (st : State) (x : Call) → Long st → Meets (m .layers) (Right m (stepArguments x)) (LawOf st) (workOf m n st x)
-  meets st (step a) l = go n
+  course-one : (x : Held) (c : Call) → Long x → n ≡ 0 → CourseOf x c (callWork n c x)
+  course-one x (step a) l e = go n e
     where
-      go : (k : ℕ) → Meets (m .layers) (Right m a) (LawOf st) (workOf m k st (step a))
-      go zero = unfold workOf in (work-meets m a st l)
-      go (suc k) = unfold workOf in (tt, tt, tt, lit< tt)
-
-  course-one : (st : State) (x : Call) → Long st → n ≡ 0 → CourseOf m st x (workOf m n st x)
-  course-one st (step a) l e = go n e
-    where
-      go : (k : ℕ) → k ≡ 0 → CourseOf m st (step a) (workOf m k st (step a))
-      go zero z = unfold workOf in (work-course m a st l)
+      go : (k : ℕ) → k ≡ 0 → CourseOf x (step a) (callWork k (step a) x)
+      go zero z = unfold callWork in (work-course (x .design) a (x .state) l)
       go (suc k) z = absurd (omega arith)
 
-  refused-one : (st : State) (x : Call) → 0 < n → RefusedWithOne (workOf m n st x)
-  refused-one st (step a) l = go n l
+  refused-one : (x : Held) (c : Call) → 0 < n → RefusedWithOne (callWork n c x)
+  refused-one x (step a) l = go n l
     where
-      go : (k : ℕ) → 0 < k → RefusedWithOne (workOf m k st (step a))
+      go : (k : ℕ) → 0 < k → RefusedWithOne (callWork k (step a) x)
       go zero z = absurd (not-suc-le-zero z)
-      go (suc k) z = unfold workOf in (refl, refl, refl)
+      go (suc k) z = unfold callWork in (refl, refl, refl)
 
-  reported-one : (st : State) (x : Call) → Long st → (s : Progress) → workOf m n st x .end ≡ done s → AllTold (workOf m n st x) s
-  reported-one st x l s e =
-      all-map (λ (u : Turn). getD (s .lines) (u .heater) zeroLine ≡ lineOf (u .turned)) (λ (u : Turn). LineTells u (getD (s .lines) (u .heater) zeroLine)) (λ u q. rw q (line-tells u)) (workOf m n st x .turns)
-      (subst (Reach (LawOf st (workOf m n st x .turns))) e (meets st x l .3) .told)
+  -- what follows from the course of a call, or from its refusal with nothing worked
+  says-one : (x : Held) (c : Call) → Long x → Says (x .design) (x .state) (callWork n c x) × MixedOrNine (x .design .layers) (callWork n c x)
+  says-one x (step a) l = go n
+    where
+      go : (k : ℕ) → Says (x .design) (x .state) (callWork k (step a) x) × MixedOrNine (x .design .layers) (callWork k (step a) x)
+      go zero = unfold callWork in (
+          let c = work-course (x .design) a (x .state) l in
+          let w = work (fixedOf (x .design)) (x .state) a in
+          (course-says (x .design) a (x .state) w c, course-mixes (x .design) a (x .state) w c))
+      go (suc k) = unfold callWork in (no-turns-say (x .design) (x .state) (stop 1) 1 (lit< tt) refl refl, (tt, tt))
 
-  number-one : (st : State) (x : Call) → Long st → (k : ℕ) → workOf m n st x .end ≡ refused k → 0 < k
-  number-one st x l k e = subst (Reach (LawOf st (workOf m n st x .turns))) e (meets st x l .3)
-
-  flag-after : (st : State) (x : Call) (h : ℕ) → Long st
-      → getD (carry st (workOf m n st x .end) .flags) h false ≡ latched (inTurn began h (workOf m n st x)) (inTurn ended h (workOf m n st x)) (getD (st .flags) h false)
-  flag-after st x h l = go (workOf m n st x .end) (meets st x l .3)
+  flag-after : (x : Held) (c : Call) (h : ℕ) → Long x
+      → getD (carry x (callWork n c x .end) .state .flags) h false ≡ latched (inTurn began h (callWork n c x)) (inTurn ended h (callWork n c x)) (getD (x .state .flags) h false)
+  flag-after x c h l = go (callWork n c x .end) (λ o e. says-one x c l .0 .flag o e h)
     where
       us : List Turn
-      us = workOf m n st x .turns
+      us = callWork n c x .turns
 
-      go : (e : End) → Reach (LawOf st us) e → getD (carry st e .flags) h false ≡ latched (accepted e && any (ofHeater h began) us) (accepted e && any (ofHeater h ended) us) (getD (st .flags) h false)
-      go (refused k) r = sym (nothing-latched (getD (st .flags) h false))
-      go (done s) r = unfold opening in (r .flag h)
+      go : (e : End Outcome)
+          → ((o : Outcome) → e ≡ done o → getD (o .heated .flags) h false ≡ latched (any (ofHeater h began) us) (any (ofHeater h ended) us) (getD (x .state .flags) h false))
+          → getD (carry x e .state .flags) h false ≡ latched (accepted e && any (ofHeater h began) us) (accepted e && any (ofHeater h ended) us) (getD (x .state .flags) h false)
+      go (refused k) f = sym (nothing-latched (getD (x .state .flags) h false))
+      go (done o) f = f o refl
 
-  long-next : (st : State) (x : Call) → Long st → Long (carry st (workOf m n st x .end))
-  long-next st x l = go (workOf m n st x .end) (meets st x l .3)
+  long-next : (x : Held) (c : Call) → Long x → Long (carry x (callWork n c x .end))
+  long-next x c l = go (callWork n c x .end) (says-one x c l .0 .flags-length)
     where
-      go : (e : End) → Reach (LawOf st (workOf m n st x .turns)) e → length (carry st e .flags) ≡ maxHeaters
-      go (refused k) r = l
-      go (done s) r = unfold opening in (r .flags-length ∙ l)
+      go : (e : End Outcome) → ((o : Outcome) → e ≡ done o → length (o .heated .flags) ≡ length (x .state .flags)) → Long (carry x e)
+      go (refused k) f = l
+      go (done o) f = f o refl ∙ l
+
+  carries-one : (x : Held) (e : End Outcome) → Carries x e (carry x e)
+  carries-one x (refused k) = (refl, refl)
+  carries-one x (done o) = (refl, (refl, refl))
 
   -- ---- a list of calls
 
-  flags-latched : (h : ℕ) (calls : List Call) (st : State) → Long st
-      → getD (carried st (run (workOf m n) st calls) .flags) h false ≡ latchedBy (inTurn began h) (inTurn ended h) noWork (getD (st .flags) h false) (run (workOf m n) st calls)
-  unfolding carried latchedBy run
-  flags-latched h [] st l = refl
-  flags-latched h (x ∷ calls) st l = rw (flags-latched h calls (carry st (workOf m n st x .end)) (long-next st x l), flag-after st x h l)
+  pub no-number : (c : Call) (x : Held) → workCall n c x .number ≡ 0
+  unfolding workCall
+  no-number c x = refl
+
+  abbrev after : Held → List Call → Held
+  after x calls = endedAt x (run (workCall n) calls x .end)
+
+  flags-latched : (h : ℕ) (calls : List Call) (x : Held) → Long x
+      → getD (after x calls .state .flags) h false ≡ latchedBy (inTurn began h) (inTurn ended h) noWork (getD (x .state .flags) h false) (run (workCall n) calls x .parts)
+  unfolding run latchedBy
+  flags-latched h [] x l = refl
+  flags-latched h (c ∷ calls) x l =
+      rw (ended-more (workCall n) no-number c calls x, more-parts (workCall n) no-number c calls x)
+      (flags-latched h calls (workCall n c x .leaves) (unfold workCall in (long-next x c l)) ∙ unfold workCall in (rw (flag-after x c h l)))
+
+  design-after : (calls : List Call) (x : Held) → after x calls .design ≡ x .design
+  unfolding run
+  design-after [] x = refl
+  design-after (c ∷ calls) x = rw (ended-more (workCall n) no-number c calls x) (design-after calls (workCall n c x .leaves) ∙ unfold workCall in (carries-one x (callWork n c x .end) .0))
 
   -- what holds of each call's work holds of each of a list's
-  module _ (Q : State → Call → Work → Type 0) (one : (st : State) (x : Call) → Long st → Q st x (workOf m n st x)) where
-    each : (calls : List Call) (st : State) → Long st → (i : ℕ) → i < length calls → Q (carried st (take i (run (workOf m n) st calls))) (getD calls i noCall) (getD (run (workOf m n) st calls) i noWork)
-    unfolding run carried
-    each [] st l i k = absurd (not-suc-le-zero k)
-    each (x ∷ calls) st l zero k = one st x l
-    each (x ∷ calls) st l (suc i) k = each calls (carry st (workOf m n st x .end)) (long-next st x l) i (le-of-suc-le-suc k)
-
-  -- each call is worked, and leaves what its end carries on
-  run-length : (calls : List Call) (st : State) → length (run (workOf m n) st calls) ≡ length calls
-  unfolding run
-  run-length [] st = refl
-  run-length (x ∷ calls) st = ap suc (run-length calls (carry st (workOf m n st x .end)))
-
-  carries-one : (st : State) (e : End) → Carries st e (carry st e)
-  carries-one st (refused k) = refl
-  carries-one st (done s) = (refl, refl)
-
-  each-carries : (calls : List Call) (st : State) (i : ℕ) → i < length calls
-      → let ws = run (workOf m n) st calls in
-      Carries (carried st (take i ws)) (getD ws i noWork .end) (carried st (take (suc i) ws))
-  unfolding run carried
-  each-carries [] st i k = absurd (not-suc-le-zero k)
-  each-carries (x ∷ calls) st zero k = carries-one st (workOf m n st x .end)
-  each-carries (x ∷ calls) st (suc i) k = each-carries calls (carry st (workOf m n st x .end)) i (le-of-suc-le-suc k)
+  module _ (Q : Call → Held → Work → Held → Type 0) (one : (c : Call) (x : Held) → Long x → Q c x (callWork n c x) (carry x (callWork n c x .end))) where
+    each : (calls : List Call) (x : Held) → Long x → (i : ℕ) → i < length calls → Q (getD calls i noCall) (after x (take i calls)) (getD (run (workCall n) calls x .parts) i noWork) (after x (take (suc i) calls))
+    each = run-each (workCall n) no-number noCall noWork Long (λ c x l. unfold workCall in (long-next x c l)) Q (λ c x l. unfold workCall in (one c x l))
 
 -- ---- the start
 
@@ -176,7 +164,7 @@ module _ (m : TankDesign) (few : m .layers ≤ 32) where
   abbrev rest : List Float
   rest = drop (m .layers) (replicate 32 zero-f)
 
-  starts-with : Starts m (start m)
+  starts-with : Starts m (start m .state)
   starts-with = record {
     layers = λ k l. List·getD-append first rest nan k (rw (length-replicate (m .layers) (m .initial)) l) ∙ getD-replicate (m .layers) k (m .initial) nan l;
     unused = λ k l u.
@@ -199,21 +187,23 @@ all-false (suc n) zero = refl
 all-false (suc n) (suc i) = all-false n i
 
 pub history-demand : (m : TankDesign) (calls : List Call) → HistoryDemand m calls
-unfolding history
+unfolding history heldAfter
 history-demand m calls = record {
-  flags = λ h. rw (take-all (length calls) works (omega (arith, run-length m n calls (start m))), flags-latched m n h calls (start m) refl, all-false maxHeaters h) (flags-on h works);
-  supplies = each m n (λ (st : State) (x : Call) (w : Work). AllRightlySupplied m w) (λ st x l. meets m n st x l .2) calls (start m) refl;
-  reported = each m n (λ (st : State) (x : Call) (w : Work). (s : Progress) → w .end ≡ done s → AllTold w s) (reported-one m n) calls (start m) refl;
-  mixings = each m n (λ (st : State) (x : Call) (w : Work). MixedOrNine (m .layers) w) (λ st x l. let k = meets m n st x l in (k .0, k .1)) calls (start m) refl;
-  refusals = each m n (λ (st : State) (x : Call) (w : Work). (k : ℕ) → w .end ≡ refused k → 0 < k) (number-one m n) calls (start m) refl;
-  works-all = run-length m n calls (start m);
-  order = in-working-order m;
+  design = λ i. design-after n (take i calls) (start m);
+  flags = λ h. rw (flags-latched n h calls (start m) refl, all-false maxHeaters h) (flags-on h works);
+  supplies = each n (λ (c : Call) (x : Held) (w : Work) (y : Held). AllRightlySupplied (x .design) w) (λ c x l. says-one n x c l .0 .supplies) calls (start m) refl;
+  reported = each n (λ (c : Call) (x : Held) (w : Work) (y : Held). (s : Outcome) → w .end ≡ done s → AllTold w s) (λ c x l. says-one n x c l .0 .told) calls (start m) refl;
+  mixings = each n (λ (c : Call) (x : Held) (w : Work) (y : Held). MixedOrNine (x .design .layers) w) (λ c x l. says-one n x c l .1) calls (start m) refl;
+  refusals = each n (λ (c : Call) (x : Held) (w : Work) (y : Held). (k : ℕ) → w .end ≡ refused k → 0 < k) (λ c x l. says-one n x c l .0 .number) calls (start m) refl;
+  works-all = run-length (workCall n) (no-number n) calls (start m);
+  order = λ i. in-working-order _;
   make-refusal = make-refused-as m n .0 refl;
-  refused-make = each m n (λ (st : State) (x : Call) (w : Work). 0 < n → RefusedWithOne w) (λ st x l. refused-one m n st x) calls (start m) refl;
+  refused-make = each n (λ (c : Call) (x : Held) (w : Work) (y : Held). 0 < n → RefusedWithOne w) (λ c x l. refused-one n x c) calls (start m) refl;
   course = λ e. record {
-    starts = unfold carried in (starts-with m (few-layers m e));
-    course = λ i l. each m n (λ (st : State) (x : Call) (w : Work). n ≡ 0 → CourseOf m st x w) (λ st x k. course-one m n st x k) calls (start m) refl i l e;
-    carries = each-carries m n calls (start m);
+    made = unfold run in refl;
+    starts = unfold run in (starts-with m (few-layers m e));
+    course = λ i l. each n (λ (c : Call) (x : Held) (w : Work) (y : Held). n ≡ 0 → CourseOf x c w) (λ c x k. course-one n x c k) calls (start m) refl i l e;
+    carries = each n (λ (c : Call) (x : Held) (w : Work) (y : Held). Carries x (w .end) y) (λ c x l. carries-one n x (callWork n c x .end)) calls (start m) refl;
   };
 }
   where
@@ -221,4 +211,4 @@ history-demand m calls = record {
     n = designRefusal m
 
     works : List Work
-    works = run (workOf m n) (start m) calls
+    works = run (workCall n) calls (start m) .parts

@@ -11,10 +11,11 @@ use lib.Seq.{ext-getD}
 use lib.Ieee.{nan}
 use Rattle.tank_model.specs.declared.TankDesign.{TankDesign}
 use Rattle.tank_model.specs.Fixed.{State}
-use Rattle.tank_model.specs.Work.{End, refused, done, Work}
-use Rattle.tank_model.specs.History.{Call, step}
-use Rattle.tank_model.specs.HistoryDemand.{noCall, Starts, Carries, CourseOf, ListCourse}
-use Rattle.tank_model.proofs.SameFields.{state-eq}
+use Rattle.tank_model.specs.Run.{End, refused, done}
+use Rattle.tank_model.specs.Work.{Outcome, Work}
+use Rattle.tank_model.specs.History.{Call, step, Held}
+use Rattle.tank_model.specs.HistoryDemand.{noCall, Starts, CarriesState, Carries, CourseOf, ListCourse}
+use Rattle.tank_model.proofs.SameFields.{state-eq, held-eq}
 use Rattle.tank_model.proofs.Once.{AlikeWorks, course-once}
 
 starts-once : (m : TankDesign) (s t : State) → Starts m s → Starts m t → s ≡ t
@@ -24,25 +25,27 @@ starts-once m s t p q = state-eq s t (ext-getD nan (s .temps) (t .temps) (p .pla
     go k u true f g = p .layers k (f tt) ∙ sym (q .layers k (f tt))
     go k u false f g = p .unused k (g tt) u ∙ sym (q .unused k (g tt) u)
 
-carries-once : (st : State) (e : End) (s t : State) → Carries st e s → Carries st e t → s ≡ t
-carries-once st (refused n) s t p q = p ∙ sym q
-carries-once st (done x) s t p q = state-eq s t (p .0 ∙ sym (q .0)) (p .1 ∙ sym (q .1))
+carries-once : (x : Held) (e : End Outcome) (y z : Held) → Carries x e y → Carries x e z → y ≡ z
+carries-once x e y z p q = held-eq y z (p .0 ∙ sym (q .0)) (go e (p .1) (q .1))
+  where
+    go : (d : End Outcome) → CarriesState (x .state) d (y .state) → CarriesState (x .state) d (z .state) → y .state ≡ z .state
+    go (refused n) f g = f ∙ sym g
+    go (done s) f g = state-eq (y .state) (z .state) (f .0 ∙ sym (g .0)) (f .1 ∙ sym (g .1))
 
-module _ (m : TankDesign) (calls : List Call) (ws : ℕ → Work) (ss : ℕ → State) (vs : ℕ → Work) (ts : ℕ → State) (p : ListCourse m calls ws ss) (q : ListCourse m calls vs ts) where
-  call-once : (st : State) (x : Call) (w v : Work) → CourseOf m st x w → CourseOf m st x v → AlikeWorks w v
-  call-once st (step a) w v f g = course-once m a st w v f g
+module _ (m : TankDesign) (calls : List Call) (ws : ℕ → Work) (xs : ℕ → Held) (vs : ℕ → Work) (ys : ℕ → Held) (p : ListCourse m calls ws xs) (q : ListCourse m calls vs ys) where
+  call-once : (x : Held) (c : Call) (w v : Work) → CourseOf x c w → CourseOf x c v → AlikeWorks w v
+  call-once x (step a) w v f g = course-once (x .design) a (x .state) w v f g
 
-  works-from : (i : ℕ) → i < length calls → ss i ≡ ts i → AlikeWorks (ws i) (vs i)
-  works-from i l e = call-once (ss i) (getD calls i noCall) (ws i) (vs i) (p .course i l) (subst (λ (st : State). CourseOf m st (getD calls i noCall) (vs i)) (sym e) (q .course i l))
+  works-from : (i : ℕ) → i < length calls → xs i ≡ ys i → AlikeWorks (ws i) (vs i)
+  works-from i l e = call-once (xs i) (getD calls i noCall) (ws i) (vs i) (p .course i l) (subst (λ (x : Held). CourseOf x (getD calls i noCall) (vs i)) (sym e) (q .course i l))
 
-  pub states-once : (i : ℕ) → i ≤ length calls → ss i ≡ ts i
-  states-once zero l = starts-once m (ss 0) (ts 0) (p .starts) (q .starts)
+  pub states-once : (i : ℕ) → i ≤ length calls → xs i ≡ ys i
+  states-once zero l = held-eq (xs 0) (ys 0) (p .made ∙ sym (q .made)) (starts-once m (xs 0 .state) (ys 0 .state) (p .starts) (q .starts))
   states-once (suc i) l =
       let k : i < length calls = omega arith in
       let e = states-once i (omega arith) in
-      let w = works-from i k e in
-      carries-once (ss i) (ws i .end) (ss (suc i)) (ts (suc i)) (p .carries i k)
-      (subst (λ (x : End). Carries (ss i) x (ts (suc i))) (sym (w .end)) (subst (λ (st : State). Carries st (vs i .end) (ts (suc i))) (sym e) (q .carries i k)))
+      carries-once (xs i) (ws i .end) (xs (suc i)) (ys (suc i)) (p .carries i k)
+      (rw (e, works-from i k e .end) (q .carries i k))
 
   pub works-once : (i : ℕ) → i < length calls → AlikeWorks (ws i) (vs i)
   works-once i l = works-from i l (states-once i (omega arith))

@@ -1,7 +1,7 @@
 -- Proves facts on lists that demand 3's proof cites: of all members and of some, and of numbers in a list.
-use mathlib.Core.Path.{_≡_, refl, sym, subst}
+use mathlib.Core.Path.{_≡_, sym, subst}
 use mathlib.Core.Logic.{_⊎_, inl, inr, _≢_}
-use mathlib.Core.List.{List, [], _∷_, _++_}
+use mathlib.Core.List.{List, [], _∷_}
 use mathlib.Core.Bool.{Bool, true, false, _||_, cond}
 use Prim.Native.Nat.{ℕ, zero, suc, _+_, _<_, _≤_}
 use native.Mathlib.Omega.{arith}
@@ -18,17 +18,9 @@ any p [] = false
 any p (x ∷ xs) = p x || any p xs
 
 module _ {A : Type 0} where
-  pub all-append : (Q : A → Type 0) (xs ys : List A) → All Q xs → All Q ys → All Q (xs ++ ys)
-  all-append Q [] ys h k = k
-  all-append Q (x ∷ xs) ys h k = (h .0, all-append Q xs ys (h .1) k)
-
-  pub all-left : (Q : A → Type 0) (xs ys : List A) → All Q (xs ++ ys) → All Q xs
-  all-left Q [] ys h = tt
-  all-left Q (x ∷ xs) ys h = (h .0, all-left Q xs ys (h .1))
-
-  pub all-right : (Q : A → Type 0) (xs ys : List A) → All Q (xs ++ ys) → All Q ys
-  all-right Q [] ys h = h
-  all-right Q (x ∷ xs) ys h = all-right Q xs ys (h .1)
+  pub all-any : (xs : List A) → All (λ (x : A). Unit {0}) xs
+  all-any [] = tt
+  all-any (x ∷ xs) = (tt, all-any xs)
 
   pub all-map : (Q R : A → Type 0) → ((x : A) → Q x → R x) → (xs : List A) → All Q xs → All R xs
   all-map Q R f [] h = tt
@@ -60,14 +52,6 @@ module _ {A : Type 0} where
       go true t = tt
       go false t = t
 
-  pub any-append : (p : A → Bool) (us vs : List A) → any p (us ++ vs) ≡ (any p us || any p vs)
-  any-append p [] vs = refl
-  any-append p (u ∷ us) vs = go (p u) (any-append p us vs)
-    where
-      go : (b : Bool) → any p (us ++ vs) ≡ (any p us || any p vs) → (b || any p (us ++ vs)) ≡ (b || any p us || any p vs)
-      go true e = refl
-      go false e = e
-
 -- what both sides of a test have, it has
 pub by-cond : {A : Type 0} (Q : A → Type 0) (b : Bool) {x y : A} → Q x → Q y → Q (cond b x y)
 by-cond Q true p q = p
@@ -85,24 +69,6 @@ pub in-all : (Q : ℕ → Type 0) (x : ℕ) (ys : List ℕ) → In x ys → All 
 in-all Q x [] i h = absurd i
 in-all Q x (y ∷ ys) (inl e) h = subst Q (sym e) (h .0)
 in-all Q x (y ∷ ys) (inr i) h = in-all Q x ys i (h .1)
-
-pub in-or-not : (x : ℕ) (ys : List ℕ) → In x ys ⊎ NotIn x ys
-in-or-not x [] = inr tt
-in-or-not x (y ∷ ys) = go (ℕ-discrete x y) (in-or-not x ys)
-  where
-    go : Dec (x ≡ y) → In x ys ⊎ NotIn x ys → In x (y ∷ ys) ⊎ NotIn x (y ∷ ys)
-    go (yes e) r = inl (inl e)
-    go (no n) (inl i) = inl (inr i)
-    go (no n) (inr o) = inr (n, o)
-
-pub in-left : (x : ℕ) (xs ys : List ℕ) → In x xs → In x (xs ++ ys)
-in-left x [] ys i = absurd i
-in-left x (z ∷ xs) ys (inl e) = inl e
-in-left x (z ∷ xs) ys (inr i) = inr (in-left x xs ys i)
-
-pub in-right : (x : ℕ) (xs ys : List ℕ) → In x ys → In x (xs ++ ys)
-in-right x [] ys i = i
-in-right x (z ∷ xs) ys i = inr (in-right x xs ys i)
 
 -- ---- the numbers from i on
 

@@ -1,10 +1,10 @@
 -- Proves that the course of a step leaves no choice: two works that take one step's course from one state have the same events, turns that are alike as far as they
 -- got, and the same end, be it a number or the same layers, totals, average, flags, charges, losses and lines. So nothing that a step hands on is left unsaid.
 use mathlib.Core.Path.{_≡_, refl, sym, ap, ap₂, _∙_, subst}
-use mathlib.Core.Logic.{_⊎_, inl, inr}
+use mathlib.Core.Logic.{inl, inr, ⊎-elim}
 use mathlib.Core.List.{List, [], _∷_, _++_}
 use mathlib.Core.Bool.{Bool, true, false}
-use Prim.Native.Nat.{ℕ, _<_}
+use Prim.Native.Nat.{ℕ}
 use native.Mathlib.Omega.{arith}
 use lib.Dec.{T}
 use lib.ListN.{set}
@@ -13,30 +13,25 @@ use Rattle.numeric.specs.Double.{zero-f}
 use Rattle.numeric.specs.Close.{wideClose}
 use Rattle.numeric.specs.Tabulate.{tabulate}
 use Rattle.mixing.specs.Rearrange.{Mixing, sorted, unsorted}
-use Rattle.draw_off.specs.declared.Totals.{Totals}
-use Rattle.draw_off.specs.Event.{Event, EventMixing, unmixed, mixed}
+use Rattle.draw_events.specs.Event.{Event, EventMixing, unmixed, mixed}
 use Rattle.tank_model.specs.declared.TankDesign.{TankDesign}
 use Rattle.tank_model.specs.declared.HeaterLine.{HeaterLine}
 use Rattle.tank_model.specs.declared.Step.{Step}
 use Rattle.tank_model.specs.Fixed.{State, fixedOf}
 use Rattle.tank_model.specs.Order.{workingOrder}
-use Rattle.tank_model.specs.Work.{Progress, Turn, End, refused, Work}
-use Rattle.tank_model.specs.Arguments.{eventVolume, volumesOf}
-use Rattle.tank_model.specs.Refusals.{NotFinite, LayerNotFinite, tankSentences, stepSentences, StepRefusal}
-use Rattle.tank_model.specs.Course.{passed, EventOf, EventLeaves, EventNotFinite, EventDraws, EventPart, inputOf, FiguresOf, AfterMixing, TurnOf, LineTells, TurnLeaves, TurnNotFinite, TurnDraws, TurnPart, InSequence, Opens, Averages, Closes, Turns, EventsThenTurns, Course}
+use Rattle.tank_model.specs.Run.{End, refused}
+use Rattle.tank_model.specs.Work.{DrawOff, Heating, Turn, Outcome, Work}
+use Rattle.tank_model.specs.Arguments.{feedOf, eventVolume, volumesOf}
+use Rattle.tank_model.specs.Refusals.{LayerNotFinite, FirstOf, tankSentences, stepSentences, StepRefusal}
+use Rattle.tank_model.specs.Course.{passed, EventOf, EventLeaves, EventNotFinite, EventDraws, EventPart, inputOf, FiguresOf, AfterMixing, TurnOf, LineTells, TurnLeaves, TurnNotFinite, TurnDraws, TurnPart, Averages, TurnsOpen, Closes, Turns, ThenTurns, EventsThenTurns, Course}
+use Rattle.tank_model.proofs.Run.{Pairwise, sequence-once}
 use Rattle.tank_model.proofs.Sentences.{same-test}
 use Rattle.tank_model.proofs.Refusals.{first-once}
 use Rattle.tank_model.proofs.Mixings.{mixing-once}
-use Rattle.tank_model.proofs.SameFields.{totals-eq, progress-eq, event-eq, line-eq, turned-eq, turn-eq}
+use Rattle.tank_model.proofs.Parts.{nine-drawn}
+use Rattle.tank_model.proofs.SameFields.{totals-eq, draw-off-eq, heating-eq, event-eq, line-eq, turned-eq, turn-eq}
 
 -- ---- what is the same
-
--- each is to its fellow as R says
-abbrev pub Pairwise : {A : Type 0} → (A → A → Type 0) → List A → List A → Type 0
-Pairwise R [] [] = Unit {0}
-Pairwise R [] (y ∷ ys) = ⊥
-Pairwise R (x ∷ xs) [] = ⊥
-Pairwise R (x ∷ xs) (y ∷ ys) = R x y × Pairwise R xs ys
 
 -- two turns up to their mixings, and, where these handed on layers, the whole of them; what follows a mixing out of order is seen nowhere
 pub record AlikeTurns (u v : Turn) : Type 0 where
@@ -59,63 +54,17 @@ pairwise-equal [] (y ∷ ys) p = absurd p
 pairwise-equal (x ∷ xs) [] p = absurd p
 pairwise-equal (x ∷ xs) (y ∷ ys) p = ap₂ (λ z zs. z ∷ zs) (p .0) (pairwise-equal xs ys (p .1))
 
--- ---- parts of the work in a row
-
-module _ {K P : Type 0} (Part : K → Progress → P → Progress → Type 0) (Draws : P → Progress → ℕ → Type 0) (Like : Progress → Progress → Type 0) (Same : P → P → Type 0)
-    (one : (k : K) (s t : Progress) (d e : P) (s' t' : Progress) (n j : ℕ) → Like s t → Part k s d s' → Part k t e t' → Draws d s' n → Draws e t' j → Same d e × (n ≡ j) × (n ≡ 0 → Like s' t'))
-    (A B : Progress → Type 0) (S R : ℕ → Type 0) where
-  -- both go on, from where they are alike, or both stop with one number
-  abbrev Alike : Type 0
-  Alike = ((x : Progress) × (y : Progress) × Like x y × A x × B y) ⊎ ((n : ℕ) × S n × R n)
-
-  sequence-once : (ks : List K) (ds es : List P) (s t : Progress) → Like s t → InSequence Part Draws A S s ks ds → InSequence Part Draws B R t ks es → Pairwise Same ds es × Alike
-  sequence-once [] [] [] s t l p q = (tt, inl (s, t, l, p, q))
-  sequence-once [] [] (e ∷ es) s t l p q = absurd q
-  sequence-once [] (d ∷ ds) es s t l p q = absurd p
-  sequence-once (k ∷ ks) [] es s t l p q = absurd p
-  sequence-once (k ∷ ks) (d ∷ ds) [] s t l p q = absurd q
-  sequence-once (k ∷ ks) (d ∷ ds) (e ∷ es) s t l p q = go (λ l' p' q'. sequence-once ks ds es (p .0) (q .0) l' p' q') (p .2) (q .2)
-    where
-      s' : Progress
-      s' = p .0
-
-      t' : Progress
-      t' = q .0
-
-      go : (Like s' t' → InSequence Part Draws A S s' ks ds → InSequence Part Draws B R t' ks es → Pairwise Same ds es × Alike)
-          → (Draws d s' 0 × InSequence Part Draws A S s' ks ds) ⊎ ((n : ℕ) × (0 < n) × Draws d s' n × S n × (ds ≡ []))
-          → (Draws e t' 0 × InSequence Part Draws B R t' ks es) ⊎ ((n : ℕ) × (0 < n) × Draws e t' n × R n × (es ≡ []))
-          → (Same d e × Pairwise Same ds es) × Alike
-      go rest (inl x) (inl y) =
-          let o = one k s t d e s' t' 0 0 l (p .1) (q .1) (x .0) (y .0) in
-          let r = rest (o .2 refl) (x .1) (y .1) in
-          ((o .0, r .0), r .1)
-      go rest (inl x) (inr y) = let z = one k s t d e s' t' 0 (y .0) l (p .1) (q .1) (x .0) (y .2) .1 in absurd (omega (arith, z, y .1))
-      go rest (inr x) (inl y) = let z = one k s t d e s' t' (x .0) 0 l (p .1) (q .1) (x .2) (y .0) .1 in absurd (omega (arith, z, x .1))
-      go rest (inr x) (inr y) =
-          let o = one k s t d e s' t' (x .0) (y .0) l (p .1) (q .1) (x .2) (y .2) in
-          ((o .0, rw (x .4, y .4) tt), inr (x .0, x .3, subst R (sym (o .1)) (y .3)))
-
 -- ---- the events
 
--- alike but for the average, which is not taken yet
-record Like (s t : Progress) : Type 0 where
-  temps : s .temps ≡ t .temps
-  totals : s .totals ≡ t .totals
-  flags : s .flags ≡ t .flags
-  charged : s .charged ≡ t .charged
-  losses : s .losses ≡ t .losses
-  lines : s .lines ≡ t .lines
-
 module _ (m : TankDesign) (a : Step) where
-  event-same : (v : Float) (s t : Progress) (d e : Event) → Like s t → EventOf m (a .feed) v s d → EventOf m (a .feed) v t e → d ≡ e
-  event-same v s t d e l p q = event-eq d e (p .wanted ∙ sym (q .wanted)) (p .before ∙ l .temps ∙ sym (q .before)) draw-same refill-same (go (e .refill .mixes) refl)
+  event-same : (v : Float) (s : DrawOff) (d e : Event) → EventOf m (feedOf a) v s d → EventOf m (feedOf a) v s e → d ≡ e
+  event-same v s d e p q = event-eq d e (p .wanted ∙ sym (q .wanted)) (p .before ∙ sym (q .before)) draw-same refill-same (go (e .refill .mixes) refl)
     where
       draw-same : d .draw ≡ e .draw
-      draw-same = rw (p .draw, q .draw, l .temps, l .totals)
+      draw-same = p .draw ∙ sym (q .draw)
 
       refill-same : d .refill ≡ e .refill
-      refill-same = rw (p .refill, q .refill, l .temps, draw-same)
+      refill-same = rw (p .refill, q .refill, draw-same)
 
       go : (b : Bool) → e .refill .mixes ≡ b → d .mixing ≡ e .mixing
       go true z =
@@ -124,73 +73,45 @@ module _ (m : TankDesign) (a : Step) where
           x .1 ∙ ap mixed (mixing-once (m .layers) (volumesOf m) (e .refill .temps) (x .0) (y .0) (rw refill-same at (x .2)) (y .2)) ∙ sym (y .1)
       go false z = p .no-mixing (λ c. rw (refill-same, z) at c) ∙ sym (q .no-mixing (λ c. rw z at c))
 
-  abbrev NotUnsorted : EventMixing → Type 0
-  NotUnsorted x = ¬ (x ≡ mixed unsorted)
-
-  leaves-same : (s t : Progress) (d : Event) (s' t' : Progress) → Like s t → EventLeaves m s d s' → EventLeaves m t d t' → NotUnsorted (d .mixing) → Like s' t'
-  leaves-same s t d s' t' l p q n = record {
-    temps = go (d .mixing) refl;
-    totals = totals-eq _ _ _ _ _ _ _ _ (rw (p .energy, q .energy, l .totals)) (rw (p .used, q .used, l .totals)) (p .weighted ∙ sym (q .weighted)) (p .drawn ∙ sym (q .drawn));
-    flags = p .flags ∙ l .flags ∙ sym (q .flags);
-    charged = p .charged ∙ l .charged ∙ sym (q .charged);
-    losses = p .losses ∙ l .losses ∙ sym (q .losses);
-    lines = p .lines ∙ l .lines ∙ sym (q .lines);
-  }
+  -- where its mixing is not out of order, what it hands on is settled
+  leaves-same : (s : DrawOff) (d : Event) (s' t' : DrawOff) → EventLeaves m s d s' → EventLeaves m s d t' → ¬ (d .mixing ≡ mixed unsorted) → s' ≡ t'
+  leaves-same s d s' t' p q n =
+      draw-off-eq s' t' (go (d .mixing) refl) (totals-eq _ _ _ _ _ _ _ _ (p .energy ∙ sym (q .energy)) (p .used ∙ sym (q .used)) (p .weighted ∙ sym (q .weighted)) (p .drawn ∙ sym (q .drawn)))
     where
       go : (x : EventMixing) → d .mixing ≡ x → s' .temps ≡ t' .temps
       go unmixed e = p .temps-unmixed e ∙ sym (q .temps-unmixed e)
       go (mixed (sorted after k)) e = p .temps-mixed after k e ∙ sym (q .temps-mixed after k e)
       go (mixed unsorted) e = absurd (n e)
 
-  finite-same : (s t : Progress) → Like s t → EventNotFinite m s → EventNotFinite m t
-  finite-same s t l (inl x) = inl (subst (LayerNotFinite m) (l .temps) x)
-  finite-same s t l (inr (inl x)) = inr (inl (subst (λ (y : Totals). NotFinite (y .energy)) (l .totals) x))
-  finite-same s t l (inr (inr x)) = inr (inr (subst (λ (y : Totals). NotFinite (y .used)) (l .totals) x))
-
-  like-back : (s t : Progress) → Like s t → Like t s
-  like-back s t l = record {
-    temps = sym (l .temps);
-    totals = sym (l .totals);
-    flags = sym (l .flags);
-    charged = sym (l .charged);
-    losses = sym (l .losses);
-    lines = sym (l .lines);
-  }
-
-  event-number : (d : Event) (s t : Progress) (n j : ℕ) → (NotUnsorted (d .mixing) → Like s t) → EventDraws m d s n → EventDraws m d t j → (n ≡ j) × (n ≡ 0 → Like s t)
+  event-number : (d : Event) (s t : DrawOff) (n j : ℕ) → (¬ (d .mixing ≡ mixed unsorted) → s ≡ t) → EventDraws m d s n → EventDraws m d t j → (n ≡ j) × (n ≡ 0 → s ≡ t)
   event-number d s t n j f (inl x) (inl y) = (x .1 ∙ sym (y .1), λ z. absurd (omega (arith, x .1, z)))
   event-number d s t n j f (inl x) (inr y) = absurd (y .0 (x .0))
   event-number d s t n j f (inr x) (inl y) = absurd (x .0 (y .0))
-  event-number d s t n j f (inr x) (inr y) = let l = f (x .0) in (go l (x .1) (y .1), λ z. l)
-    where
-      go : Like s t → (EventNotFinite m s × (n ≡ 10)) ⊎ (¬ (EventNotFinite m s) × (n ≡ 0)) → (EventNotFinite m t × (j ≡ 10)) ⊎ (¬ (EventNotFinite m t) × (j ≡ 0)) → n ≡ j
-      go l (inl u) (inl v) = u .1 ∙ sym (v .1)
-      go l (inl u) (inr v) = absurd (v .0 (finite-same s t l (u .0)))
-      go l (inr u) (inl v) = absurd (u .0 (finite-same t s (like-back s t l) (v .0)))
-      go l (inr u) (inr v) = u .1 ∙ sym (v .1)
+  event-number d s t n j f (inr x) (inr y) =
+      let e = f (x .0) in
+      (first-once ((10, EventNotFinite m t) ∷ []) n j (subst (λ (z : DrawOff). FirstOf ((10, EventNotFinite m z) ∷ []) n) e (x .1)) (y .1), λ z. e)
 
-  event-once : (v : Float) (s t : Progress) (d e : Event) (s' t' : Progress) (n j : ℕ) → Like s t → EventPart m a v s d s' → EventPart m a v t e t' → EventDraws m d s' n → EventDraws m e t' j → (d ≡ e) × (n ≡ j) × (n ≡ 0 → Like s' t')
-  event-once v s t d e s' t' n j l p q x y =
-      let o = event-same v s t d e l (p .0) (q .0) in
+  event-once : (v : Float) (s : DrawOff) (d e : Event) (s' t' : DrawOff) (n j : ℕ) → EventPart m a v s d s' → EventPart m a v s e t' → EventDraws m d s' n → EventDraws m e t' j → (d ≡ e) × (n ≡ j) × (n ≡ 0 → s' ≡ t')
+  event-once v s d e s' t' n j p q x y =
+      let o = event-same v s d e (p .0) (q .0) in
       let z = sym o in
-      let r = event-number d s' t' n j (leaves-same s t d s' t' l (p .1) (subst (λ (i : Event). EventLeaves m t i t') z (q .1))) x (subst (λ (i : Event). EventDraws m i t' j) z y) in
+      let r = event-number d s' t' n j (leaves-same s d s' t' (p .1) (subst (λ (i : Event). EventLeaves m s i t') z (q .1))) x (subst (λ (i : Event). EventDraws m i t' j) z y) in
       (o, r .0, r .1)
 
   -- ---- the average
 
-  averages-once : (s t s' t' : Progress) → Like s t → Averages m s s' → Averages m t t' → s' ≡ t'
-  averages-once s t s' t' l p q =
-      progress-eq s' t' (p .temps ∙ l .temps ∙ sym (q .temps)) (p .totals ∙ l .totals ∙ sym (q .totals)) (go (wideClose (t .totals .drawn) zero-f) refl) (p .flags ∙ l .flags ∙ sym (q .flags)) (p .charged ∙ l .charged ∙ sym (q .charged)) (p .losses ∙ l .losses ∙ sym (q .losses)) (p .lines ∙ l .lines ∙ sym (q .lines))
+  averages-once : (s : DrawOff) (x y : Float) → Averages m s x → Averages m s y → x ≡ y
+  averages-once s x y p q = go (wideClose (s .totals .drawn) zero-f) refl
     where
-      go : (b : Bool) → wideClose (t .totals .drawn) zero-f ≡ b → s' .average ≡ t' .average
-      go true z = rw (p .none-drawn (rw (l .totals, z) tt), q .none-drawn (rw z tt), l .temps)
-      go false z = rw (p .some-drawn (λ c. rw (l .totals, z) at c), q .some-drawn (λ c. rw z at c), l .totals)
+      go : (b : Bool) → wideClose (s .totals .drawn) zero-f ≡ b → x ≡ y
+      go true z = p .none-drawn (rw z tt) ∙ sym (q .none-drawn (rw z tt))
+      go false z = p .some-drawn (λ c. rw z at c) ∙ sym (q .some-drawn (λ c. rw z at c))
 
   -- ---- the turns
 
   module _ (fs : List Bool) where
     -- two turns of one heater, from one place, up to their mixings
-    module _ (h : ℕ) (s : Progress) (u v : Turn) (p : TurnOf m a fs h s u) (q : TurnOf m a fs h s v) where
+    module _ (h : ℕ) (s : Heating) (u v : Turn) (p : TurnOf m a fs h s u) (q : TurnOf m a fs h s v) where
       same-points : u .points ≡ v .points
       same-points = p .points ∙ sym (q .points)
 
@@ -253,9 +174,9 @@ module _ (m : TankDesign) (a : Step) where
           go (sorted after k) e t = same-figures after k (subst (AfterMixing m h s u) e (p .after-mixing)) (subst (AfterMixing m h s v) (sym same-mixing ∙ e) (q .after-mixing))
           go unsorted e t = absurd t
 
-    leaves-once : (s : Progress) (u : Turn) (s' t' : Progress) → TurnLeaves s u s' → TurnLeaves s u t' → s' ≡ t'
+    leaves-once : (s : Heating) (u : Turn) (s' t' : Heating) → TurnLeaves s u s' → TurnLeaves s u t' → s' ≡ t'
     leaves-once s u s' t' p q =
-        progress-eq s' t' (p .temps ∙ sym (q .temps)) (p .totals ∙ sym (q .totals)) (p .average ∙ sym (q .average)) (p .flags ∙ sym (q .flags)) (p .charged ∙ sym (q .charged)) (p .losses ∙ sym (q .losses))
+        heating-eq s' t' (p .temps ∙ sym (q .temps)) (p .charged ∙ sym (q .charged)) (p .flags ∙ sym (q .flags)) (p .losses ∙ sym (q .losses))
         (p .lines .2 ∙ ap (λ (x : HeaterLine). set (s .lines) (u .heater) x) line ∙ sym (q .lines .2))
       where
         f : LineTells u (p .lines .0)
@@ -267,70 +188,51 @@ module _ (m : TankDesign) (a : Step) where
         line : p .lines .0 ≡ q .lines .0
         line = line-eq (p .lines .0) (q .lines .0) (f .flag ∙ sym (g .flag)) (f .adjusted ∙ sym (g .adjusted)) (f .supplied ∙ sym (g .supplied)) (f .losses ∙ sym (g .losses)) (f .rounds ∙ sym (g .rounds))
 
-    draws-nine : (u : Turn) (n : ℕ) → u .turned .mixing ≡ unsorted → TurnDraws m u n → n ≡ 9
-    draws-nine u n e (inl x) = x .1
-    draws-nine u n e (inr x) = absurd (x .0 e)
-
-    turn-once : (h : ℕ) (s t : Progress) (u v : Turn) (s' t' : Progress) (n j : ℕ) → s ≡ t → TurnPart m a fs h s u s' → TurnPart m a fs h t v t' → TurnDraws m u n → TurnDraws m v j → AlikeTurns u v × (n ≡ j) × (n ≡ 0 → s' ≡ t')
-    turn-once h s t u v s' t' n j l p q x y = let r = go (u .turned .mixing) refl in (alike, r .0, r .1)
+    turn-once : (h : ℕ) (s : Heating) (u v : Turn) (s' t' : Heating) (n j : ℕ) → TurnPart m a fs h s u s' → TurnPart m a fs h s v t' → TurnDraws m u n → TurnDraws m v j → AlikeTurns u v × (n ≡ j) × (n ≡ 0 → s' ≡ t')
+    turn-once h s u v s' t' n j p q x y = let r = go (u .turned .mixing) refl in (alike, r .0, r .1)
       where
-        q' : TurnPart m a fs h s v t'
-        q' = subst (λ (z : Progress). TurnPart m a fs h z v t') (sym l) q
-
         alike : AlikeTurns u v
-        alike = turns-alike h s u v (p .0) (q' .0)
+        alike = turns-alike h s u v (p .0) (q .0)
 
         go : (i : Mixing) → u .turned .mixing ≡ i → (n ≡ j) × (n ≡ 0 → s' ≡ t')
-        go unsorted e = let z = draws-nine u n e x in (z ∙ sym (draws-nine v j (sym (alike .mixing) ∙ e) y), λ o. absurd (omega (arith, z, o)))
+        go unsorted e = let z = nine-drawn n e x in (z ∙ sym (nine-drawn j (sym (alike .mixing) ∙ e) y), λ o. absurd (omega (arith, z, o)))
         go (sorted after k) e =
             let z = sym (alike .whole (rw e tt)) in (
               first-once ((9, u .turned .mixing ≡ unsorted) ∷ (10, TurnNotFinite m u) ∷ []) n j x (subst (λ (i : Turn). TurnDraws m i j) z y),
-              λ o. leaves-once s u s' t' (p .1) (subst (λ (i : Turn). TurnLeaves s i t') z (q' .1)),
+              λ o. leaves-once s u s' t' (p .1) (subst (λ (i : Turn). TurnLeaves s i t') z (q .1)),
             )
 
-    closes-once : (d e : End) (s : Progress) → Closes d s → Closes e s → d ≡ e
-    closes-once d e s (inl p) (inl q) = p .1 ∙ sym (q .1)
-    closes-once d e s (inl p) (inr q) = absurd (q .0 (p .0))
-    closes-once d e s (inr p) (inl q) = absurd (p .0 (q .0))
-    closes-once d e s (inr p) (inr q) = p .1 ∙ sym (q .1)
+    closes-once : (d e : End Outcome) (c : DrawOff) (x : Float) (s : Heating) → Closes d c x s → Closes e c x s → d ≡ e
+    closes-once d e c x s (inl p) (inl q) = p .1 ∙ sym (q .1)
+    closes-once d e c x s (inl p) (inr q) = absurd (q .0 (p .0))
+    closes-once d e c x s (inr p) (inl q) = absurd (p .0 (q .0))
+    closes-once d e c x s (inr p) (inr q) = p .1 ∙ sym (q .1)
 
-    turns-once : (s t : Progress) (us vs : List Turn) (d e : End) → s ≡ t → Turns m a fs s us d → Turns m a fs t vs e → Pairwise AlikeTurns us vs × (d ≡ e)
-    turns-once s t us vs d e l p q =
-        let r = sequence-once (TurnPart m a fs) (λ (u : Turn) (x : Progress). TurnDraws m u) (λ (x y : Progress). x ≡ y) AlikeTurns turn-once (Closes d) (Closes e) (λ (n : ℕ). d ≡ refused n) (λ (n : ℕ). e ≡ refused n) (workingOrder (fixedOf m)) us vs s t l p q in
-        (r .0, go (r .1))
-      where
-        go : ((x : Progress) × (y : Progress) × (x ≡ y) × Closes d x × Closes e y) ⊎ ((n : ℕ) × (d ≡ refused n) × (e ≡ refused n)) → d ≡ e
-        go (inl r) = closes-once d e (r .1) (subst (Closes d) (r .2) (r .3)) (r .4)
-        go (inr r) = r .1 ∙ sym (r .2)
+    turns-once : (c : DrawOff) (x : Float) (s : Heating) (us vs : List Turn) (d e : End Outcome) → Turns m a fs c x s us d → Turns m a fs c x s vs e → Pairwise AlikeTurns us vs × (d ≡ e)
+    turns-once c x s us vs d e p q =
+        let r = sequence-once (TurnPart m a fs) (λ (u : Turn) (y : Heating). TurnDraws m u) AlikeTurns turn-once (Closes d c x) (Closes e c x) (λ (n : ℕ). d ≡ refused n) (λ (n : ℕ). e ≡ refused n) (workingOrder (fixedOf m)) us vs s p q in
+        (r .0, ⊎-elim (λ y. closes-once d e c x (y .0) (y .1) (y .2)) (λ y. y .1 ∙ sym (y .2)) (r .1))
 
   -- ---- the step
 
-  opens-once : (st : State) (s t : Progress) → Opens st s → Opens st t → Like s t
-  opens-once st s t p q = record {
-    temps = p .temps ∙ sym (q .temps);
-    totals = p .totals ∙ sym (q .totals);
-    flags = p .flags ∙ sym (q .flags);
-    charged = p .charged ∙ sym (q .charged);
-    losses = p .losses ∙ sym (q .losses);
-    lines = p .lines ∙ sym (q .lines);
-  }
+  turns-open-once : (st : State) (d : DrawOff) (s t : Heating) → TurnsOpen st d s → TurnsOpen st d t → s ≡ t
+  turns-open-once st d s t p q = heating-eq s t (p .temps ∙ sym (q .temps)) (p .charged ∙ sym (q .charged)) (p .flags ∙ sym (q .flags)) (p .losses ∙ sym (q .losses)) (p .lines ∙ sym (q .lines))
 
-  worked-once : (fs : List Bool) (s t : Progress) (w x : Work) → Like s t → EventsThenTurns m a fs s w → EventsThenTurns m a fs t x → AlikeWorks w x
-  worked-once fs s t w x l p q =
-      let r = sequence-once (EventPart m a) (EventDraws m) Like (λ (d e : Event). d ≡ e) event-once (Rest w) (Rest x) (Stopped w) (Stopped x) (tabulate (eventVolume a) (a .events) 0) (w .events) (x .events) s t l p q in
-      go (pairwise-equal (w .events) (x .events) (r .0)) (r .1)
+  then-once : (st : State) (d : DrawOff) (w x : Work) → w .events ≡ x .events → ThenTurns m st a w d → ThenTurns m st a x d → AlikeWorks w x
+  then-once st d w x e p q =
+      let y = averages-once d (p .0) (q .0) (p .1) (q .1) in
+      let s = turns-open-once st d (p .2 .0) (q .2 .0) (p .2 .1) (q .2 .1) in
+      let o = turns-once (st .flags) d (q .0) (q .2 .0) (w .turns) (x .turns) (w .end) (x .end) (rw (y, s) at (p .2 .2)) (q .2 .2) in
+      record { end = o .1; events = e; turns = o .0 }
+
+  worked-once : (st : State) (s : DrawOff) (w x : Work) → EventsThenTurns m st a w s → EventsThenTurns m st a x s → AlikeWorks w x
+  worked-once st s w x p q =
+      let r = sequence-once (EventPart m a) (EventDraws m) (λ (d e : Event). d ≡ e) event-once (ThenTurns m st a w) (ThenTurns m st a x) (Stopped w) (Stopped x) (tabulate (eventVolume a) (a .events) 0) (w .events) (x .events) s p q in
+      let e = pairwise-equal (w .events) (x .events) (r .0) in
+      ⊎-elim (λ y. then-once st (y .0) w x e (y .1) (y .2)) (λ y. record { end = y .1 .0 ∙ sym (y .2 .0); events = e; turns = rw (y .1 .1, y .2 .1) tt }) (r .1)
     where
-      Rest : Work → Progress → Type 0
-      Rest y z = (z' : Progress) × Averages m z z' × Turns m a fs z' (y .turns) (y .end)
-
       Stopped : Work → ℕ → Type 0
       Stopped y n = (y .end ≡ refused n) × (y .turns ≡ [])
-
-      go : w .events ≡ x .events → ((y : Progress) × (z : Progress) × Like y z × Rest w y × Rest x z) ⊎ ((n : ℕ) × Stopped w n × Stopped x n) → AlikeWorks w x
-      go e (inr r) = record { end = r .1 .0 ∙ sym (r .2 .0); events = e; turns = rw (r .1 .1, r .2 .1) tt }
-      go e (inl r) =
-          let o = turns-once fs (r .3 .0) (r .4 .0) (w .turns) (x .turns) (w .end) (x .end) (averages-once (r .0) (r .1) (r .3 .0) (r .4 .0) (r .2) (r .3 .1) (r .4 .1)) (r .3 .2) (r .4 .2) in
-          record { end = o .1; events = e; turns = o .0 }
 
   number-once : (st : State) (n k : ℕ) → StepRefusal m st a n → StepRefusal m st a k → n ≡ k
   number-once st n k p q = first-once (tankSentences m (LayerNotFinite m (st .temps)) ++ stepSentences m a) n k p q
@@ -341,4 +243,8 @@ module _ (m : TankDesign) (a : Step) where
       record { end = p .3 ∙ ap refused z ∙ sym (q .3); events = p .4 ∙ sym (q .4); turns = rw (p .5, q .5) tt }
   course-once st w x (inl p) (inr q) = let z = number-once st (p .0) 0 (p .2) (q .0) in absurd (omega (arith, z, p .1))
   course-once st w x (inr p) (inl q) = let z = number-once st 0 (q .0) (p .0) (q .2) in absurd (omega (arith, z, q .1))
-  course-once st w x (inr p) (inr q) = worked-once (st .flags) (p .1 .0) (q .1 .0) w x (opens-once st (p .1 .0) (q .1 .0) (p .1 .1) (q .1 .1)) (p .1 .2) (q .1 .2)
+  course-once st w x (inr p) (inr q) =
+      let o = p .1 .1 in
+      let o' = q .1 .1 in
+      let e = draw-off-eq (p .1 .0) (q .1 .0) (o .temps ∙ sym (o' .temps)) (o .totals ∙ sym (o' .totals)) in
+      worked-once st (p .1 .0) w x (p .1 .2) (subst (EventsThenTurns m st a x) (sym e) (q .1 .2))

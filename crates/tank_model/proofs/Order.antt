@@ -1,19 +1,19 @@
 -- Proves that the order of work has each heater once and nothing else, each worked before the next (01, Tank).
-use mathlib.Core.Path.{_≡_, refl, sym, subst}
+use mathlib.Core.Path.{_≡_, sym, subst}
 use mathlib.Core.Logic.{_⊎_, inl, inr, _≢_}
-use mathlib.Core.List.{List, [], _∷_, map}
+use mathlib.Core.List.{List, [], _∷_}
 use mathlib.Core.Bool.{Bool, true, false, not, cond}
 use Prim.Native.Nat.{ℕ, zero, suc, _+_, _<_, _≤_}
 use native.Mathlib.Omega.{arith}
 use lib.Dec.{T}
 use lib.ListN.{length, getD}
-use lib.Ieee.{nan, le}
+use lib.Ieee.{le}
 use Rattle.numeric.specs.Tabulate.{tabulate, length-tabulate, at-tabulate}
-use Rattle.working_order.specs.Order.{indices, insert, insertionSort, notAbove, risingOrder}
+use Rattle.working_order.specs.Order.{indices, insert, insertionSort, comesBefore, risingOrder}
 use Rattle.tank_model.specs.declared.Heater.{Heater}
 use Rattle.tank_model.specs.declared.TankDesign.{TankDesign}
-use Rattle.tank_model.specs.Fixed.{Placed, Fixed, placed, noHeater, notPlaced, placedHeaters, heaterOf, fixedOf}
-use Rattle.tank_model.specs.Order.{positions, workingOrder}
+use Rattle.tank_model.specs.Fixed.{Fixed, placed, noHeater, notPlaced, placedHeaters, heaterOf, fixedOf}
+use Rattle.tank_model.specs.Order.{workingOrder}
 use Rattle.tank_model.specs.Members.{All, Distinct, ChainFrom, Chain}
 use Rattle.tank_model.specs.Arguments.{positionOf, WorkedBefore, InWorkingOrder}
 use Rattle.tank_model.proofs.Members.{by-cond, In, numbers-above, numbers-distinct, indices-below, in-indices}
@@ -119,21 +119,16 @@ heaters-many m = many-placed (m .heaters) (m .fitted)
 
 -- ---- the order of work
 
-pub position-at : (f : Fixed) (h : ℕ) → getD (positions f) h nan ≡ heaterOf f h .position
-position-at f h = go (f .heaters) h
-  where
-    go : (xs : List Placed) (h : ℕ) → getD (map (λ (x : Placed). x .position) xs) h nan ≡ getD xs h notPlaced .position
-    go [] h = refl
-    go (x ∷ xs) zero = refl
-    go (x ∷ xs) (suc h) = go xs h
+abbrev heaterBefore : Fixed → ℕ → ℕ → Bool
+heaterBefore f = comesBefore (λ (h : ℕ). heaterOf f h .position)
 
 pub order-below : (f : Fixed) → All (λ (h : ℕ). h < length (f .heaters)) (workingOrder f)
 unfolding workingOrder risingOrder
-order-below f = sort-all (notAbove (positions f)) (λ (h : ℕ). h < length (f .heaters)) (indices (length (f .heaters))) (indices-below (length (f .heaters)) (length (f .heaters)) (omega arith))
+order-below f = sort-all (heaterBefore f) (λ (h : ℕ). h < length (f .heaters)) (indices (length (f .heaters))) (indices-below (length (f .heaters)) (length (f .heaters)) (omega arith))
 
 pub order-once : (f : Fixed) → Distinct (workingOrder f)
 unfolding workingOrder risingOrder
-order-once f = sorted-once (notAbove (positions f)) (length (f .heaters))
+order-once f = sorted-once (heaterBefore f) (length (f .heaters))
 
 pub in-working-order : (m : TankDesign) → InWorkingOrder m (workingOrder (fixedOf m))
 unfolding workingOrder risingOrder
@@ -145,13 +140,13 @@ in-working-order m = rw (heaters-many m) (record {
 })
   where
     before : ℕ → ℕ → Bool
-    before = notAbove (positions (fixedOf m))
+    before = heaterBefore (fixedOf m)
 
     only : All (λ (h : ℕ). h < m .heaters) (insertionSort before (indices (m .heaters)))
     only = sort-all before (λ (h : ℕ). h < m .heaters) (indices (m .heaters)) (indices-below (m .heaters) (m .heaters) (omega arith))
 
     compared : (x y : ℕ) → x < m .heaters → y < m .heaters → before x y ≡ le (positionOf m x) (positionOf m y)
-    compared x y k l = rw (position-at (fixedOf m) x, position-at (fixedOf m) y, heater-is m x k, heater-is m y l)
+    compared x y k l = rw (heater-is m x k, heater-is m y l)
 
     said : (x y : ℕ) → x < m .heaters → y < m .heaters → Ahead before x y → WorkedBefore m x y
     said x y k l (inl p) = inl (p .0, subst T (compared x y k l) (p .1))

@@ -5,54 +5,72 @@ use mathlib.Core.List.{List, [], _∷_, _++_}
 use mathlib.Core.Bool.{Bool, _&&_}
 use Prim.Native.Nat.{ℕ, zero, suc, _<_}
 use native.Mathlib.Omega.{arith}
-use lib.Dec.{T, leb, eqb, lit<}
+use lib.Dec.{T, lit<}
 use lib.ListN.{length, getD}
 use lib.Ieee.{Float, nan, lt, le}
 use lib.Ieee.Scale.{finite}
 use lib.Ieee.Fits.{and-l, and-r, and-i}
 use Rattle.numeric.specs.Double.{zero-f, one-f}
-use Rattle.numeric.specs.Holds.{holds}
 use Rattle.cylinder.specs.Layers.{allFinite}
 use Rattle.heating.specs.declared.SetPoints.{SetPoints}
 use Rattle.heating.specs.declared.SetPoints.the-variants.{Neither, Lower, Upper, Both}
 use Rattle.tank_model.specs.declared.TankDesign.{TankDesign}
 use Rattle.tank_model.specs.declared.Step.{Step}
 use Rattle.tank_model.specs.Fixed.{Placed, State, heaterOf, fixedOf}
-use Rattle.tank_model.specs.Checks.{unless, firstRefusal, isPositive, notNegative, isPosition, fairHeater, fairPoints, tankChecks, pointsOf, stepChecks, makeRefusal, stepRefusal}
+use Rattle.tank_model.specs.FirstRefusal.{firstRefusal, firstAmong, decides, goes-on, last-decides, among-passes, among-found}
+use Rattle.tank_model.specs.Checks.{unless, isPositive, isPosition, heatersCheck, heaterCheck, placesCheck, tankChecks, pointsOf, countsCheck, volumeCheck, pointsCheck, stepChecks, makeRefusal, stepRefusal}
 use Rattle.tank_model.specs.Arguments.{eventVolume}
-use Rattle.tank_model.specs.Refusals.{NotFinite, BelowZero, NotFiniteAndAboveZero, NoPosition, LayerNotFinite, PlacesRefused, HeatersRefused, CountsRefused, BadPoints, FirstOf, tankSentences, stepSentences, MakeRefusal, StepRefusal}
+use Rattle.tank_model.specs.Refusals.{NotFinite, BelowZero, NotFiniteAndAboveZero, NoPosition, SomeBelow, LayerNotFinite, LayersRefused, HeatersRefused, NumbersRefused, TemperaturesRefused, PlacesRefused, CountsRefused, FeedRefused, BadPoints, PointsRefused, FirstOf, tankSentences, stepSentences, MakeRefusal, StepRefusal}
 use Rattle.tank_model.proofs.Order.{heater-is, heaters-many}
 use Rattle.tank_model.proofs.Sentences.{Fails, passing, failing, fails-not, fails-test, fails-as, fails-two, fails-three, fails-four, fails-some, fails-le, fails-eq, fails-finite, fails-negative}
 
 -- ---- the first sentence that holds
 
--- a check that answers k says whether the sentence holds, by its number or 0
-abbrev Decides : ℕ × Type 0 → ℕ → Type 0
-Decides x k = (0 < x .0) × (((k ≡ 0) × ¬ (x .1)) ⊎ ((k ≡ x .0) × x .1))
+-- no sentence has the number 0
+abbrev Numbered : List (ℕ × Type 0) → Type 0
+Numbered [] = Unit {0}
+Numbered (x ∷ xs) = (0 < x .0) × Numbered xs
 
-abbrev Decide : List (ℕ × Type 0) → List ℕ → Type 0
-Decide [] [] = Unit {0}
-Decide [] (k ∷ ks) = ⊥
-Decide (x ∷ xs) [] = ⊥
-Decide (x ∷ xs) (k ∷ ks) = Decides x k × Decide xs ks
+-- the checks ks, one after the other, answer the number of the first of the sentences xs that holds
+record Answer (xs : List (ℕ × Type 0)) (ks : List ℕ) : Type 0 where
+  first : FirstOf xs (firstRefusal ks)
 
-decides : (n : ℕ) {b : Bool} {S : Type 0} → 0 < n → Fails S b → Decides (n, S) (unless b n)
-decides n l (passing f) = (l, inl (refl, f))
-decides n l (failing f) = (l, inr (refl, f))
+first-then : (xs ys : List (ℕ × Type 0)) (k : ℕ) (ks : List ℕ) → Numbered xs → FirstOf xs k → FirstOf ys (firstRefusal ks) → FirstOf (xs ++ ys) (firstRefusal (k ∷ ks))
+first-then [] ys k ks n e q = rw (sym (goes-on k k (firstRefusal ks) ks refl e refl)) q
+first-then (x ∷ xs) ys k ks n (inl p) q = inl (p .0, sym (decides k k ks refl (λ z. omega (arith, z, p .1, n .0))) ∙ p .1)
+first-then (x ∷ xs) ys k ks n (inr p) q = inr (p .0, first-then xs ys k ks (n .1) (p .1) q)
 
-decide-both : (xs ys : List (ℕ × Type 0)) (ks js : List ℕ) → Decide xs ks → Decide ys js → Decide (xs ++ ys) (ks ++ js)
-decide-both [] ys [] js p q = q
-decide-both [] ys (k ∷ ks) js p q = absurd p
-decide-both (x ∷ xs) ys [] js p q = absurd p
-decide-both (x ∷ xs) ys (k ∷ ks) js p q = (p .0, decide-both xs ys ks js (p .1) q)
+none-left : Answer [] []
+none-left = record { first = unfold firstRefusal in refl }
 
-first-of : (xs : List (ℕ × Type 0)) (ks : List ℕ) → Decide xs ks → FirstOf xs (firstRefusal ks)
-unfolding firstRefusal
-first-of [] [] d = refl
-first-of [] (k ∷ ks) d = absurd d
-first-of (x ∷ xs) [] d = absurd d
-first-of (x ∷ xs) (zero ∷ ks) d = ⊎-elim (λ y. inr (y .1, first-of xs ks (d .1))) (λ y. absurd (omega (arith, y .0, d .0 .0))) (d .0 .1)
-first-of (x ∷ xs) (suc k ∷ ks) d = ⊎-elim (λ y. absurd (omega (arith, y .0))) (λ y. inl (y .1, y .0)) (d .0 .1)
+-- a check, of one sentence or more, and then the checks after it
+then : (xs : List (ℕ × Type 0)) {ys : List (ℕ × Type 0)} {k : ℕ} {ks : List ℕ} → Numbered xs → FirstOf xs k → Answer ys ks → Answer (xs ++ ys) (k ∷ ks)
+then xs n f a = record { first = first-then xs _ _ _ n f (a .first) }
+
+-- one sentence: by a test, by two checks of one number, and by a check of places one after the other
+answers : (n : ℕ) {b : Bool} {S : Type 0} → Fails S b → FirstOf ((n, S) ∷ []) (unless b n)
+answers n (passing f) = inr (f, refl)
+answers n (failing f) = inl (f, refl)
+
+answers-either : (n k j : ℕ) (S R : Type 0) → 0 < n → FirstOf ((n, S) ∷ []) k → FirstOf ((n, R) ∷ []) j → FirstOf ((n, S ⊎ R) ∷ []) (firstRefusal (k ∷ j ∷ []))
+answers-either n k j S R l (inl p) q = inl (inl (p .0), sym (decides k k (j ∷ []) refl (λ z. omega (arith, z, p .1))) ∙ p .1)
+answers-either n k j S R l (inr p) (inl q) = inl (inr (q .0), sym (goes-on k k j (j ∷ []) refl (p .1) (last-decides j j refl)) ∙ q .1)
+answers-either n k j S R l (inr p) (inr q) = inr (λ x. ⊎-elim (p .0) (q .0) x, sym (goes-on k k j (j ∷ []) refl (p .1) (last-decides j j refl)) ∙ q .1)
+
+answers-some : (n : ℕ) (check : ℕ → ℕ) (m : ℕ) (P : ℕ → Type 0) → 0 < n → ((k : ℕ) → k < m → FirstOf ((n, P k) ∷ []) (check k)) → FirstOf ((n, SomeBelow m P) ∷ []) (firstAmong check m)
+answers-some n check m P l each = go (firstAmong check m) refl
+  where
+    none : (k : ℕ) → FirstOf ((n, P k) ∷ []) (check k) → check k ≡ 0 → ¬ (P k)
+    none k (inl p) z = absurd (omega (arith, z, p .1))
+    none k (inr p) z = p .0
+
+    some : (k r : ℕ) → k < m → check k ≡ suc r → FirstOf ((n, P k) ∷ []) (check k) → FirstOf ((n, SomeBelow m P) ∷ []) (suc r)
+    some k r u e (inl p) = inl ((k, u, p .0), sym e ∙ p .1)
+    some k r u e (inr p) = absurd (omega (arith, e, p .1))
+
+    go : (r : ℕ) → firstAmong check m ≡ r → FirstOf ((n, SomeBelow m P) ∷ []) r
+    go zero e = inr (λ x. none (x .0) (each (x .0) (x .1)) (among-passes check m e (x .0) (x .1)) (x .2), refl)
+    go (suc r) e = let f = among-found check m r e in some (f .place) r (f .within) (f .number) (each (f .place) (f .within))
 
 -- there is one
 pub first-once : (xs : List (ℕ × Type 0)) (n k : ℕ) → FirstOf xs n → FirstOf xs k → n ≡ k
@@ -73,15 +91,15 @@ positive-fails x = fails-not (isPositive x) (two-facts (finite x) (lt zero-f x))
 position-fails : (x : Float) → Fails (NoPosition x) (isPosition x)
 position-fails x = fails-not (isPosition x) (two-facts (le zero-f x) (lt x one-f))
 
-heater-fails : (x : Placed) → Fails ((NotFinite (x .rated) ⊎ BelowZero (x .rated)) ⊎ NoPosition (x .position) ⊎ NoPosition (x .thermostat)) (fairHeater x)
-heater-fails x = fails-three (fails-negative (x .rated)) (position-fails (x .position)) (position-fails (x .thermostat))
+heater-answers : (x : Placed) → FirstOf ((5, (NotFinite (x .rated) ⊎ BelowZero (x .rated)) ⊎ NoPosition (x .position) ⊎ NoPosition (x .thermostat)) ∷ []) (heaterCheck x)
+heater-answers x = answers 5 (fails-three (fails-negative (x .rated)) (position-fails (x .position)) (position-fails (x .thermostat)))
 
-points-fail : (p : SetPoints) → Fails (BadPoints p) (fairPoints p)
-unfolding fairPoints
-points-fail Neither = passing (λ x. x)
-points-fail (Lower l) = failing tt
-points-fail (Upper u) = fails-finite u
-points-fail (Both l u) = fails-three (fails-finite l) (fails-finite u) (fails-test (lt u l))
+points-answer : (p : SetPoints) → FirstOf ((8, BadPoints p) ∷ []) (pointsCheck p)
+unfolding pointsCheck
+points-answer Neither = inr (λ x. x, refl)
+points-answer (Lower l) = inl (tt, refl)
+points-answer (Upper u) = answers 8 (fails-finite u)
+points-answer (Both l u) = answers 8 (fails-three (fails-finite l) (fails-finite u) (fails-test (lt u l)))
 
 pub layers-fail : (m : TankDesign) (temps : List Float) → Fails (LayerNotFinite m temps) (allFinite (m .layers) temps)
 unfolding allFinite
@@ -91,44 +109,49 @@ none-is-zero : (n : ℕ) → (n < 1) ↔ (n ≡ 0)
 none-is-zero n = (λ l. omega arith, λ e. omega arith)
 
 module _ (m : TankDesign) where
-  heaters-fail : Fails (HeatersRefused m) (leb (length (fixedOf m .heaters)) 8)
-  heaters-fail = rw (heaters-many m) (fails-le (m .heaters) 8)
+  heaters-answer : FirstOf ((2, HeatersRefused m) ∷ []) (heatersCheck (length (fixedOf m .heaters)))
+  heaters-answer = rw (heaters-many m) (answers 2 (fails-le (m .heaters) 8))
 
-  places-fail : Fails (PlacesRefused m) (holds (λ (h : ℕ). fairHeater (heaterOf (fixedOf m) h)) (length (fixedOf m .heaters)) 0)
-  places-fail = rw (heaters-many m) (fails-some (λ (h : ℕ). fairHeater (heaterOf (fixedOf m) h)) (m .heaters) _ (λ h l. rw (heater-is m h l) (heater-fails _)))
+  counts-answer : (a : Step) → FirstOf ((6, CountsRefused m a) ∷ []) (countsCheck (length (fixedOf m .heaters)) (a .events) (a .entries))
+  counts-answer a = rw (heaters-many m) (answers 6 (fails-two (fails-le (a .events) 64) (fails-eq (a .entries) (m .heaters))))
 
-  tank-decide : (temps : Bool) (Temperature : Type 0) → Fails Temperature temps → Decide (tankSentences m Temperature) (tankChecks (fixedOf m) temps)
-  tank-decide temps Temperature t =
-      let layers = decides 1 (lit< tt) (fails-two (fails-as (none-is-zero (m .layers)) (fails-le 1 (m .layers))) (fails-le (m .layers) 32)) in
-      let heaters = decides 2 (lit< tt) heaters-fail in
-      let numbers = decides 3 (lit< tt) (fails-four (positive-fails (m .volume)) (positive-fails (m .rho)) (positive-fails (m .cp)) (positive-fails (m .timestep))) in
-      let temperatures = decides 4 (lit< tt) (fails-three (fails-negative (m .standby)) (fails-finite (m .ambient)) t) in
-      let places = decides 5 (lit< tt) places-fail in
-      (layers, (heaters, (numbers, (temperatures, (places, tt)))))
+  places-answer : FirstOf ((5, PlacesRefused m) ∷ []) (placesCheck (fixedOf m .heaters))
+  places-answer = rw (heaters-many m) (answers-some 5 (λ (h : ℕ). heaterCheck (heaterOf (fixedOf m) h)) (m .heaters) _ (lit< tt) (λ h l. rw (heater-is m h l) (heater-answers _)))
 
-  counts-fail : (a : Step) → Fails (CountsRefused m a) (leb (a .events) 64 && eqb (a .entries) (length (fixedOf m .heaters)))
-  counts-fail a = rw (heaters-many m) (fails-two (fails-le (a .events) 64) (fails-eq (a .entries) (m .heaters)))
+  -- 1 to 5, and then what the checks ks answer
+  tank-answers : (temps : Bool) (Temperature : Type 0) (rest : List (ℕ × Type 0)) (ks : List ℕ) → Fails Temperature temps → Answer rest ks
+      → Answer (tankSentences m Temperature ++ rest) (tankChecks (fixedOf m) temps ++ ks)
+  tank-answers temps Temperature rest ks t r =
+      let one = answers 1 (fails-two (fails-as (none-is-zero (m .layers)) (fails-le 1 (m .layers))) (fails-le (m .layers) 32)) in
+      let three = answers 3 (fails-four (positive-fails (m .volume)) (positive-fails (m .rho)) (positive-fails (m .cp)) (positive-fails (m .timestep))) in
+      let four = answers 4 (fails-three (fails-negative (m .standby)) (fails-finite (m .ambient)) t) in
+      then ((1, LayersRefused m) ∷ []) (lit< tt, tt) one
+      (then ((2, HeatersRefused m) ∷ []) (lit< tt, tt) heaters-answer
+      (then ((3, NumbersRefused m) ∷ []) (lit< tt, tt) three
+      (then ((4, TemperaturesRefused m Temperature) ∷ []) (lit< tt, tt) four
+      (then ((5, PlacesRefused m) ∷ []) (lit< tt, tt) places-answer r))))
 
-  step-decide : (a : Step) → Decide (stepSentences m a) (stepChecks (fixedOf m) a)
-  step-decide a =
-      let counts = decides 6 (lit< tt) (counts-fail a) in
-      let volumes = fails-some (λ (i : ℕ). notNegative (eventVolume a i)) (a .events) _ (λ i l. fails-negative (eventVolume a i)) in
-      let feed = decides 7 (lit< tt) (fails-two (fails-finite (a .feed)) volumes) in
-      let points = decides 8 (lit< tt) (fails-some (λ (h : ℕ). fairPoints (pointsOf a h)) (a .entries) _ (λ h l. points-fail (pointsOf a h))) in
-      (counts, (feed, (points, tt)))
+  -- 6 to 8
+  step-answers : (a : Step) → Answer (stepSentences m a) (stepChecks (fixedOf m) a)
+  step-answers a =
+      let volumes = answers-some 7 (λ (i : ℕ). volumeCheck (eventVolume a i)) (a .events) _ (lit< tt) (λ i l. answers 7 (fails-negative (eventVolume a i))) in
+      let seven = answers-either 7 _ _ _ _ (lit< tt) (answers 7 (fails-finite (a .feed))) volumes in
+      let eight = answers-some 8 (λ (h : ℕ). pointsCheck (pointsOf a h)) (a .entries) _ (lit< tt) (λ h l. points-answer (pointsOf a h)) in
+      then ((6, CountsRefused m a) ∷ []) (lit< tt, tt) (counts-answer a)
+      (then ((7, FeedRefused a) ∷ []) (lit< tt, tt) seven
+      (then ((8, PointsRefused a) ∷ []) (lit< tt, tt) eight none-left))
 
   -- ---- what make and a step are refused for: n exactly when n's sentence holds and none before it
 
   make-refusal : MakeRefusal m (makeRefusal (fixedOf m) (m .initial))
   unfolding makeRefusal
-  make-refusal = first-of (tankSentences m (NotFinite (m .initial))) (tankChecks (fixedOf m) (finite (m .initial))) (tank-decide (finite (m .initial)) (NotFinite (m .initial)) (fails-finite (m .initial)))
+  make-refusal = tank-answers (finite (m .initial)) (NotFinite (m .initial)) [] [] (fails-finite (m .initial)) none-left .first
 
   step-refusal : (st : State) (a : Step) → StepRefusal m st a (stepRefusal (fixedOf m) st a)
   unfolding stepRefusal
   step-refusal st a =
-      first-of (tankSentences m (LayerNotFinite m (st .temps)) ++ stepSentences m a) (tankChecks (fixedOf m) (allFinite (m .layers) (st .temps)) ++ stepChecks (fixedOf m) a)
-      (decide-both (tankSentences m (LayerNotFinite m (st .temps))) (stepSentences m a) (tankChecks (fixedOf m) (allFinite (m .layers) (st .temps))) (stepChecks (fixedOf m) a)
-      (tank-decide (allFinite (m .layers) (st .temps)) (LayerNotFinite m (st .temps)) (layers-fail m (st .temps))) (step-decide a))
+      tank-answers (allFinite (m .layers) (st .temps)) (LayerNotFinite m (st .temps)) (stepSentences m a) (stepChecks (fixedOf m) a)
+      (layers-fail m (st .temps)) (step-answers a) .first
 
   pub make-refused-as : (n : ℕ) → (makeRefusal (fixedOf m) (m .initial) ≡ n) ↔ MakeRefusal m n
   make-refused-as n = (

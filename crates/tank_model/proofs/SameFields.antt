@@ -1,30 +1,37 @@
--- Proves that records with equal fields are equal: what a step's work has come to, its events, turns and lines, and the state (01, Step; Turn).
+-- Proves that records with equal fields are equal: what drawing and heating carry, a step's events, turns and lines, and the state (01, Step; Turn).
 use mathlib.Core.Path.{_≡_}
 use mathlib.Core.List.{List}
 use mathlib.Core.Bool.{Bool}
 use Prim.Native.Nat.{ℕ}
 use lib.Ieee.{Float}
 use Rattle.mixing.specs.Rearrange.{Mixing}
-use Rattle.draw_off.specs.declared.Totals.{Totals}
+use Rattle.draw_events.specs.declared.Totals.{Totals}
 use Rattle.draw_off.specs.Draw.{Draw}
-use Rattle.draw_off.specs.Refill.{Refill}
-use Rattle.draw_off.specs.Event.{Event, EventMixing}
+use Rattle.refill.specs.Refill.{Refill}
+use Rattle.draw_events.specs.Event.{Event, EventMixing}
 use Rattle.heating.specs.declared.SetPoints.{SetPoints}
-use Rattle.heating.specs.Turn.{Turned}
+use Rattle.immersion_heater.specs.Turn.{Turned}
 use Rattle.tank_model.specs.declared.HeaterLine.{HeaterLine}
+use Rattle.tank_model.specs.declared.TankDesign.{TankDesign}
 use Rattle.tank_model.specs.Fixed.{State}
-use Rattle.tank_model.specs.Work.{Progress, Turn}
+use Rattle.tank_model.specs.Work.{DrawOff, Heating, Turn}
+use Rattle.tank_model.specs.History.{Held}
 
 pub totals-eq : (e u w d e' u' w' d' : Float) → e ≡ e' → u ≡ u' → w ≡ w' → d ≡ d' → _≡_ {A = Totals} (record { energy = e; used = u; weighted = w; drawn = d }) (record { energy = e'; used = u'; weighted = w'; drawn = d' })
 totals-eq e u w d e' u' w' d' p q r s = rw (p, q, r, s)
 
-pub progress-eq : (s t : Progress) → s .temps ≡ t .temps → s .totals ≡ t .totals → s .average ≡ t .average → s .flags ≡ t .flags → s .charged ≡ t .charged → s .losses ≡ t .losses → s .lines ≡ t .lines → s ≡ t
-progress-eq s t p1 p2 p3 p4 p5 p6 p7 = go (s .temps) (s .totals) (s .average) (s .flags) (s .charged) (s .losses) (s .lines) p1 p2 p3 p4 p5 p6 p7
+pub heating-eq : (s t : Heating) → s .temps ≡ t .temps → s .charged ≡ t .charged → s .flags ≡ t .flags → s .losses ≡ t .losses → s .lines ≡ t .lines → s ≡ t
+heating-eq s t p1 p2 p3 p4 p5 = go (s .temps) (s .charged) (s .flags) (s .losses) (s .lines) p1 p2 p3 p4 p5
   where
-    go : (a : List Float) (b : Totals) (c : Float) (d : List Bool) (e : List Float) (f : Float) (g : List HeaterLine)
-        → a ≡ t .temps → b ≡ t .totals → c ≡ t .average → d ≡ t .flags → e ≡ t .charged → f ≡ t .losses → g ≡ t .lines
-        → _≡_ {A = Progress} (record { temps = a; totals = b; average = c; flags = d; charged = e; losses = f; lines = g }) t
-    go a b c d e f g q1 q2 q3 q4 q5 q6 q7 = rw (q1, q2, q3, q4, q5, q6, q7)
+    go : (a b : List Float) (c : List Bool) (d : Float) (e : List HeaterLine) → a ≡ t .temps → b ≡ t .charged → c ≡ t .flags → d ≡ t .losses → e ≡ t .lines
+        → _≡_ {A = Heating} (record { temps = a; charged = b; flags = c; losses = d; lines = e }) t
+    go a b c d e q1 q2 q3 q4 q5 = rw (q1, q2, q3, q4, q5)
+
+pub draw-off-eq : (s t : DrawOff) → s .temps ≡ t .temps → s .totals ≡ t .totals → s ≡ t
+draw-off-eq s t p1 p2 = go (s .temps) (s .totals) p1 p2
+  where
+    go : (a : List Float) (b : Totals) → a ≡ t .temps → b ≡ t .totals → _≡_ {A = DrawOff} (record { temps = a; totals = b }) t
+    go a b q1 q2 = rw (q1, q2)
 
 pub event-eq : (d e : Event) → d .wanted ≡ e .wanted → d .before ≡ e .before → d .draw ≡ e .draw → d .refill ≡ e .refill → d .mixing ≡ e .mixing → d ≡ e
 event-eq d e p1 p2 p3 p4 p5 = go (d .wanted) (d .before) (d .draw) (d .refill) (d .mixing) p1 p2 p3 p4 p5
@@ -59,4 +66,10 @@ pub state-eq : (s t : State) → s .temps ≡ t .temps → s .flags ≡ t .flags
 state-eq s t p1 p2 = go (s .temps) (s .flags) p1 p2
   where
     go : (a : List Float) (b : List Bool) → a ≡ t .temps → b ≡ t .flags → _≡_ {A = State} (record { temps = a; flags = b }) t
+    go a b q1 q2 = rw (q1, q2)
+
+pub held-eq : (x y : Held) → x .design ≡ y .design → x .state ≡ y .state → x ≡ y
+held-eq x y p1 p2 = go (x .design) (x .state) p1 p2
+  where
+    go : (a : TankDesign) (b : State) → a ≡ y .design → b ≡ y .state → _≡_ {A = Held} (record { design = a; state = b }) y
     go a b q1 q2 = rw (q1, q2)

@@ -1,43 +1,41 @@
 -- Proves that a turn is what demand 3 says of it (01, Turn): its facts by make's and the step's arguments, its supply, and what it does to flags and lines.
-use mathlib.Core.Path.{_≡_, refl, sym, ap, subst}
+use mathlib.Core.Path.{_≡_, refl, sym, ap, _∙_, subst}
 use mathlib.Core.Logic.{_⊎_, inl, inr, ⊎-elim, _↔_}
-use mathlib.Core.List.{List, [], _∷_}
+use mathlib.Core.List.{List}
 use mathlib.Core.Bool.{Bool, true, false, not, cond}
 use Prim.Native.Nat.{ℕ, _<_}
-use native.Mathlib.Omega.{arith}
-use lib.Dec.{T, lit<}
-use lib.ListN.{length, getD, set}
-use lib.Ieee.{Float, nan, eq, lt}
+use lib.Dec.{T}
+use lib.ListN.{getD, set}
+use lib.Ieee.{Float, nan, lt}
 use lib.Ieee.Bits.{is-true}
 use Rattle.numeric.specs.Double.{_⊖_, zero-f}
 use Rattle.numeric.specs.Compare.{minOf2, maxOf2}
 use Rattle.numeric.specs.Close.{wideClose, narrowClose}
-use Rattle.numeric.specs.Whole.{layerOf}
 use Rattle.mixing.specs.Rearrange.{Mixing, sorted, unsorted}
 use Rattle.cylinder.specs.Layers.{layerVolume, layerVolumes}
 use Rattle.heating.specs.declared.SetPoints.{SetPoints}
 use Rattle.heating.specs.declared.SetPoints.the-variants.{Neither, Lower, Upper, Both}
-use Rattle.heating.specs.Switch.{hasUpper, upperOf, atOrUnderLower, upperMissingOrReached, switchOn, switchOff}
-use Rattle.heating.specs.Heat.{offer, heated}
+use Rattle.heating.specs.SetPoints.{hasUpper, upperOf}
+use Rattle.immersion_heater.specs.Switch.{atOrUnderLower, upperMissingOrReached, switchOn, switchOff}
+use Rattle.heating.specs.Heat.{offersTo, heated}
 use Rattle.heating.specs.Losses.{surplus, adjusted}
-use Rattle.heating.specs.Supply.{demand, supply}
-use Rattle.heating.specs.declared.turn.Immersion.{Immersion}
-use Rattle.heating.specs.Turn.{Turned, input, heatAndMix, adjustedInput, afterMixing, turn, turnNumber}
-use Rattle.heating.specs.SwitchLaws.{latched, switches-latch}
-use Rattle.heating.specs.SupplyLaws.{supply-at-most, supply-off}
-use Rattle.working_order.specs.Order.{maxHeaters}
+use Rattle.heating.specs.FinalTemps.{FinalTemps, heatAndMix, adjustedInput, afterMixing, calcFinalTemps}
+use Rattle.immersion_heater.specs.Offer.{offer}
+use Rattle.immersion_heater.specs.Supply.{demand, supply}
+use Rattle.immersion_heater.specs.declared.turn.Immersion.{Immersion}
+use Rattle.immersion_heater.specs.Turn.{Turned, afterHeat, turn}
+use Rattle.immersion_heater.specs.SupplyLaws.{supply-at-most, supply-off}
 use Rattle.tank_model.specs.declared.TankDesign.{TankDesign}
 use Rattle.tank_model.specs.declared.Step.{Step}
-use Rattle.tank_model.specs.Fixed.{Placed, fixedOf}
+use Rattle.tank_model.specs.Fixed.{Placed, immersed, fixedOf}
 use Rattle.tank_model.specs.Checks.{isPositive, notNegative, pointsOf}
-use Rattle.tank_model.specs.Work.{Progress, Turn, endBy, turnOf, afterTurn, heaterTurn}
+use Rattle.tank_model.specs.Work.{Heating, Turn, turnOf}
 use Rattle.tank_model.specs.Arguments.{cylinderOf, volumesOf, ratedOf, heaterLayer, thermostatLayer, maxEnergy, HasUpper, AtOrUnderLower, UpperMissingOrReached}
-use Rattle.tank_model.specs.Course.{passed, MixingOf, TurnOf}
+use Rattle.tank_model.specs.Course.{passed, MixingOf, inputOf, FiguresOf, AfterMixing, TurnOf}
 use Rattle.tank_model.specs.HistoryDemand.{RightlySupplied}
 use Rattle.tank_model.proofs.Sentences.{itself, or-says, not-true}
 use Rattle.tank_model.proofs.Mixings.{mixing-of}
 use Rattle.tank_model.proofs.Order.{heater-is}
-use Rattle.tank_model.proofs.Steps.{Sorted, rearrange-sorted, end-reach, Meets, began, ended, Law, first-law}
 
 -- ---- the thermostat layer and the switches
 
@@ -103,7 +101,7 @@ module _ (m : TankDesign) (a : Step) where
   immersion h = record { rated = ratedOf m h; layer = heaterLayer m h; thermostat = thermostatLayer m h }
 
   -- a turn of the heater h, as x has it, from s
-  abbrev turnFrom : ℕ → Progress → Immersion → Turned → Turn
+  abbrev turnFrom : ℕ → Heating → Immersion → Turned → Turn
   turnFrom h s x u = record {
     heater = h;
     points = pointsOf a h;
@@ -113,50 +111,54 @@ module _ (m : TankDesign) (a : Step) where
     finish = getD (u .temps) (x .thermostat) nan;
   }
 
-  abbrev turnBy : ℕ → Progress → Immersion → Turn
+  abbrev turnBy : ℕ → Heating → Immersion → Turn
   turnBy h s x = turnFrom h s x (turn (cylinderOf m) (volumesOf m) x (pointsOf a h) (s .temps) (s .charged) (getD (s .flags) h false))
 
-  turn-is : (h : ℕ) (s : Progress) → h < m .heaters → turnOf (fixedOf m) a h s ≡ turnBy h s (immersion h)
+  turn-is : (h : ℕ) (s : Heating) → h < m .heaters → turnOf (fixedOf m) (pointsOf a) h s ≡ turnBy h s (immersion h)
   unfolding turnOf layerVolumes layerVolume
-  turn-is h s l = ap (λ (y : Placed). turnBy h s (record { rated = y .rated; layer = layerOf (y .position) (m .layers); thermostat = layerOf (y .thermostat) (m .layers) })) (heater-is m h l)
+  turn-is h s l = ap (λ (y : Placed). turnBy h s (immersed (m .layers) y)) (heater-is m h l)
 
   -- whether it runs, and what its mixing comes to
-  abbrev runs : ℕ → Progress → Bool
+  abbrev runs : ℕ → Heating → Bool
   runs h s = switchOn (pointsOf a h) (getD (s .temps) (thermostatLayer m h) nan) (getD (s .flags) h false)
 
-  abbrev mixingOf : ℕ → Progress → Mixing
-  mixingOf h s = heatAndMix (cylinderOf m) (volumesOf m) (immersion h) (pointsOf a h) (s .temps) (s .charged) (runs h s)
+  -- what each layer is offered
+  abbrev offersFrom : ℕ → Bool → ℕ → Float
+  offersFrom h on = offersTo (heaterLayer m h) (offer on (maxEnergy m h))
+
+  abbrev mixingOf : ℕ → Heating → Mixing
+  mixingOf h s = heatAndMix (cylinderOf m) (volumesOf m) (pointsOf a h) (heaterLayer m h) (offersFrom h (runs h s)) (s .temps) (s .charged)
+
+  -- `calc_final_temps` by what the mixing came to
+  abbrev finalTemps : ℕ → Heating → Bool → Mixing → FinalTemps
+  finalTemps h s on x = afterMixing (cylinderOf m) (volumesOf m) (pointsOf a h) (heaterLayer m h) (offersFrom h on) (s .temps) (s .charged) x
 
   -- the turn by what its mixing came to
-  abbrev turnAfter : ℕ → Progress → Mixing → Turn
-  turnAfter h s x = turnFrom h s (immersion h) (afterMixing (cylinderOf m) (volumesOf m) (immersion h) (pointsOf a h) (s .temps) (s .charged) (runs h s) x)
+  abbrev turnAfter : ℕ → Heating → Mixing → Turn
+  turnAfter h s x = turnFrom h s (immersion h) (afterHeat (cylinderOf m) (immersion h) (pointsOf a h) (runs h s) (finalTemps h s (runs h s) x))
 
-  turn-after : (h : ℕ) (s : Progress) → h < m .heaters → turnOf (fixedOf m) a h s ≡ turnAfter h s (mixingOf h s)
-  unfolding turn
+  turn-after : (h : ℕ) (s : Heating) → h < m .heaters → turnOf (fixedOf m) (pointsOf a) h s ≡ turnAfter h s (mixingOf h s)
+  unfolding turn calcFinalTemps
   turn-after h s l = turn-is h s l
 
-  mixing-sorted : (h : ℕ) (s : Progress) → Sorted (m .layers) (mixingOf h s)
-  unfolding heatAndMix
-  mixing-sorted h s = rearrange-sorted (m .layers) (volumesOf m) _
-
   -- what it heats, and then mixes
-  abbrev heatedOf : ℕ → Progress → List Float
-  heatedOf h s = heated (cylinderOf m) (volumesOf m) (offer (runs h s) (maxEnergy m h) (heaterLayer m h)) (s .temps)
+  abbrev heatedOf : ℕ → Heating → List Float
+  heatedOf h s = heated (cylinderOf m) (volumesOf m) (offersFrom h (runs h s)) (s .temps)
 
-  mixing-is : (h : ℕ) (s : Progress) → MixingOf (m .layers) (volumesOf m) (heatedOf h s) (mixingOf h s)
+  mixing-is : (h : ℕ) (s : Heating) → MixingOf (m .layers) (volumesOf m) (heatedOf h s) (mixingOf h s)
   unfolding heatAndMix
   mixing-is h s = mixing-of (m .layers) (volumesOf m) (heatedOf h s)
 
   -- ---- its facts
 
-  pub turn-of : (fs : List Bool) (h : ℕ) (s : Progress) → h < m .heaters → getD (s .flags) h false ≡ getD fs h false → TurnOf m a fs h s (turnOf (fixedOf m) a h s)
+  pub turn-of : (fs : List Bool) (h : ℕ) (s : Heating) → h < m .heaters → getD (s .flags) h false ≡ getD fs h false → TurnOf m a fs h s (turnOf (fixedOf m) (pointsOf a) h s)
   turn-of fs h s l f = rw (turn-after h s l) (go (mixingOf h s) refl)
     where
       ran-by : T (runs h s) ↔ (HasUpper (pointsOf a h) × (AtOrUnderLower (pointsOf a h) (getD (s .temps) (thermostatLayer m h) nan) ⊎ T (getD fs h false)))
       ran-by = rw (← f) (switched-on (pointsOf a h) (getD (s .temps) (thermostatLayer m h) nan) (getD (s .flags) h false))
 
       go : (x : Mixing) → x ≡ mixingOf h s → TurnOf m a fs h s (turnAfter h s x)
-      go (sorted after k) e = unfold afterMixing adjustedInput input in (record {
+      go (sorted after k) e = unfold afterHeat afterMixing adjustedInput in (record {
         heater = refl;
         points = refl;
         before = refl;
@@ -178,7 +180,7 @@ module _ (m : TankDesign) (a : Step) where
         );
         finish = refl;
       })
-      go unsorted e = unfold afterMixing in (record {
+      go unsorted e = unfold afterHeat afterMixing in (record {
         heater = refl;
         points = refl;
         before = refl;
@@ -189,43 +191,41 @@ module _ (m : TankDesign) (a : Step) where
         finish = refl;
       })
 
-  -- ---- its supply, flag and line
+  -- ---- its supply, by what it is
 
-  -- what the checks say of a heater and of the step length
+  -- what the checks say of a heater
   abbrev pub Fair : ℕ → Type 0
-  Fair h = T (notNegative (ratedOf m h)) × (h < m .heaters) × (h < maxHeaters)
+  Fair h = T (notNegative (ratedOf m h)) × (h < m .heaters)
 
-  abbrev pub Right : Turn → Type 0
-  Right u = T (passed (u .turned .mixing)) → RightlySupplied m u (u .turned .supplied)
+  module _ (timestep : T (isPositive (m .timestep))) (fs : List Bool) (h : ℕ) (s : Heating) (u : Turn) (fair : Fair h) (t : TurnOf m a fs h s u) where
+    -- what stands over the upper set point after a mixing that left `after`
+    abbrev over : List Float → Float
+    over after = surplus (cylinderOf m) (volumesOf m) (u .points) (s .temps) after (s .charged) (heaterLayer m h)
 
-  module _ (timestep : T (isPositive (m .timestep))) where
-    right-after : (h : ℕ) (s : Progress) (x : Mixing) → Fair h → Right (turnAfter h s x)
-    unfolding afterMixing adjustedInput input
-    right-after h s unsorted f p = absurd p
-    right-after h s (sorted after k) f p = (λ n. go (runs h s) n, supply-at-most _ (ratedOf m h) (m .timestep) (f .0) timestep)
+    adjusted-is : (after : List Float) → FiguresOf m h s u after → u .turned .adjusted ≡ adjusted (inputOf m h u) (over after)
+    adjusted-is after f = go (lt zero-f (inputOf m h u)) refl
       where
-        go : (on : Bool) → T (not on) → T (eq (afterMixing (cylinderOf m) (volumesOf m) (immersion h) (pointsOf a h) (s .temps) (s .charged) on (sorted after k) .supplied) zero-f)
-        go true n = absurd n
-        go false n = unfold afterMixing adjustedInput input in (supply-off (m .layers) (heaterLayer m h) (surplus (cylinderOf m) (volumesOf m) (pointsOf a h) (s .temps) after (s .charged) (heaterLayer m h)) (ratedOf m h) (m .timestep) (f .0) timestep)
+        go : (b : Bool) → lt zero-f (inputOf m h u) ≡ b → u .turned .adjusted ≡ adjusted (inputOf m h u) (over after)
+        go true e = let i = subst T (sym e) tt in f .some-input i ∙ sym (adjusts-some (inputOf m h u) (over after) i)
+        go false e = let i : ¬ (T (lt zero-f (inputOf m h u))) = λ x. rw e at x in f .no-input i ∙ sym (adjusts-none (inputOf m h u) (over after) i)
 
-    flags-set : (h : ℕ) (s : Progress) (after : List Float) (k : ℕ)
-        → let u = turnAfter h s (sorted after k) in
-        afterTurn u s .flags ≡ set (s .flags) h (latched (began u) (ended u) (getD (s .flags) h false))
-    unfolding afterTurn afterMixing
-    flags-set h s after k = ap (λ (b : Bool). set (s .flags) h b) (switches-latch _ _ _ _)
-
-    pub turn-meets : (h : ℕ) (s : Progress) → Fair h → length (s .flags) ≡ maxHeaters → length (s .lines) ≡ maxHeaters → Meets (m .layers) Right (Law (h ∷ []) s) (heaterTurn (fixedOf m) a h s)
-    unfolding heaterTurn
-    turn-meets h s f l k = rw (turn-after h s (f .1)) (go (mixingOf h s) (mixing-sorted h s))
+    supplied-is : (after : List Float) → FiguresOf m h s u after → u .turned .supplied ≡ supply (u .turned .adjusted) (maxEnergy m h)
+    supplied-is after f = go (wideClose (u .turned .adjusted) zero-f) refl
       where
-        go : (x : Mixing) → Sorted (m .layers) x
-            → let u = turnAfter h s x in
-            Meets (m .layers) Right (Law (h ∷ []) s) (record { events = []; turns = u ∷ []; end = endBy (turnNumber (cylinderOf m) (u .turned)) (afterTurn u s) })
-        go unsorted o = unfold afterMixing turnNumber endBy in (tt, (refl, tt), (λ p. absurd p, tt), lit< tt)
-        go (sorted after r) o = (
-          tt,
-          (unfold afterMixing in o, tt),
-          (right-after h s (sorted after r) f, tt),
-          end-reach (Law (h ∷ []) s (turnAfter h s (sorted after r) ∷ [])) _ _
-              (λ z. first-law s (turnAfter h s (sorted after r)) (afterTurn (turnAfter h s (sorted after r)) s) (omega (arith, l, f .2)) (omega (arith, k, f .2)) (flags-set h s after r) (unfold afterTurn in refl)),
+        go : (b : Bool) → wideClose (u .turned .adjusted) zero-f ≡ b → u .turned .supplied ≡ supply (u .turned .adjusted) (maxEnergy m h)
+        go true e = let i = subst T (sym e) tt in f .none-asked i ∙ sym (supplies-none (u .turned .adjusted) (maxEnergy m h) i)
+        go false e = let i : ¬ (T (wideClose (u .turned .adjusted) zero-f)) = λ x. rw e at x in f .some-asked i ∙ sym (supplies-some (u .turned .adjusted) (maxEnergy m h) i)
+
+    pub turn-supplies : T (passed (u .turned .mixing)) → RightlySupplied m u (u .turned .supplied)
+    turn-supplies p = go (u .turned .mixing) p (t .after-mixing)
+      where
+        go : (x : Mixing) → T (passed x) → AfterMixing m h s u x → RightlySupplied m u (u .turned .supplied)
+        go unsorted p q = absurd p
+        go (sorted after k) p q = rw (t .heater, supplied-is after (q .0)) (
+          λ n. rw (adjusted-is after (q .0), not-true (u .turned .ran) (λ r. off (u .turned .ran) n r)) (supply-off (ratedOf m h) (m .timestep) (fair .0) timestep (m .layers) (heaterLayer m h) _ _),
+          supply-at-most (ratedOf m h) (m .timestep) (fair .0) timestep (u .turned .adjusted),
         )
+          where
+            off : (b : Bool) → T (not b) → ¬ (T b)
+            off true n r = n
+            off false n r = r

@@ -12,6 +12,7 @@ use Rattle.numeric.specs.Double.{_⊛_, _⊘_, whole}
 use Rattle.numeric.specs.Close.{narrowClose}
 use Rattle.numeric.specs.Whole.{layerOf}
 use Rattle.cylinder.specs.declared.Cylinder.{Cylinder}
+use Rattle.draw_off.specs.declared.cold.Feed.{Feed}
 use Rattle.heating.specs.declared.SetPoints.{SetPoints}
 use Rattle.heating.specs.declared.SetPoints.the-variants.{Neither, Lower, Upper, Both}
 use Rattle.tank_model.specs.declared.TankDesign.{TankDesign}
@@ -73,6 +74,10 @@ pub record InWorkingOrder (m : TankDesign) (hs : List ℕ) : Type 0 where
   pub chain : Chain (WorkedBefore m) hs
 
 -- ---- a step's arguments
+
+-- its feed, by the feed temperature
+abbrev pub feedOf : Step → Feed
+feedOf a = record { temperature = a .feed }
 
 abbrev pub noSettings : Setting
 noSettings = record { points = Neither }

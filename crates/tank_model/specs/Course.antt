@@ -1,6 +1,7 @@
 -- States the course of one step in demand 3's own words, by make's and the step's arguments (01, Draw; Mix; Switch-on to Step; Turn; refusals 9 and 10):
 -- what it begins on, which events and turns there are, on what each begins, what each is and hands on, the average, and what ended the step with which
--- number. It is a statement about a `Work` and takes only the records of Work.antt: it cites nothing that works, chains or checks a step.
+-- number. It is a statement about a `Work` and takes only the records of Work.antt and the sequence of Run.antt: it cites nothing that works, chains or
+-- checks a step.
 use mathlib.Core.Path.{_≡_}
 use mathlib.Core.Logic.{_⊎_, _↔_}
 use mathlib.Core.List.{List, [], _∷_}
@@ -15,26 +16,29 @@ use Rattle.numeric.specs.Close.{wideClose}
 use Rattle.numeric.specs.Tabulate.{tabulate}
 use Rattle.numeric.specs.Sum2.{sum2}
 use Rattle.mixing.specs.Rearrange.{Mixing, sorted, unsorted, afterRounds}
+use Rattle.draw_off.specs.declared.cold.Feed.{Feed}
 use Rattle.draw_off.specs.Draw.{extract, volumeUsed}
-use Rattle.draw_off.specs.Refill.{refill}
-use Rattle.draw_off.specs.Event.{Event, unmixed, mixed}
-use Rattle.heating.specs.Heat.{offer, heated}
+use Rattle.refill.specs.Refill.{refill}
+use Rattle.draw_events.specs.Event.{Event, unmixed, mixed}
+use Rattle.heating.specs.Heat.{offersTo, heated}
 use Rattle.heating.specs.Losses.{tempsAfter, chargedAfter, surplus, losses}
+use Rattle.immersion_heater.specs.Offer.{offer}
 use Rattle.tank_model.specs.declared.TankDesign.{TankDesign}
 use Rattle.tank_model.specs.declared.Step.{Step}
 use Rattle.tank_model.specs.declared.HeaterLine.{HeaterLine}
 use Rattle.tank_model.specs.Fixed.{State, fixedOf}
 use Rattle.tank_model.specs.Order.{workingOrder}
-use Rattle.tank_model.specs.Work.{Progress, Turn, End, refused, done, Work}
-use Rattle.tank_model.specs.Arguments.{cylinderOf, volumesOf, heaterLayer, thermostatLayer, maxEnergy, setPointsOf, eventVolume}
+use Rattle.tank_model.specs.Run.{End, refused, done, InSequence}
+use Rattle.tank_model.specs.Work.{DrawOff, Turn, Heating, Outcome, Work}
+use Rattle.tank_model.specs.Arguments.{cylinderOf, volumesOf, heaterLayer, thermostatLayer, maxEnergy, feedOf, setPointsOf, eventVolume}
 use Rattle.tank_model.specs.Arguments.{HasUpper, AtOrUnderLower, UpperMissingOrReached}
 use Rattle.tank_model.specs.Refusals.{NotFinite, LayerNotFinite, FirstOf, StepRefusal}
 
-abbrev pub accepted : End → Bool
+abbrev pub accepted : {S : Type 0} → End S → Bool
 accepted (refused n) = false
 accepted (done s) = true
 
-abbrev pub numberOf : End → ℕ
+abbrev pub numberOf : {S : Type 0} → End S → ℕ
 numberOf (refused n) = n
 numberOf (done s) = 0
 
@@ -64,8 +68,8 @@ passed unsorted = false
 
 -- ---- one event
 
--- the event of the volume v in a step with this feed, which began where the work had come to s: if its refill says so it has its one mixing, else none
-pub record EventOf (m : TankDesign) (feed : Float) (v : Float) (s : Progress) (e : Event) : Type 0 where
+-- the event of the volume v in a step with this feed, which began where drawing had come to s: if its refill says so it has its one mixing, else none
+pub record EventOf (m : TankDesign) (feed : Feed) (v : Float) (s : DrawOff) (e : Event) : Type 0 where
   pub wanted : e .wanted ≡ v
   pub before : e .before ≡ s .temps
   pub draw : e .draw ≡ extract (cylinderOf m) (volumesOf m) feed (s .temps) v (s .totals .weighted) (s .totals .drawn)
@@ -74,36 +78,36 @@ pub record EventOf (m : TankDesign) (feed : Float) (v : Float) (s : Progress) (e
   pub no-mixing : ¬ (T (e .refill .mixes)) → e .mixing ≡ unmixed
 
 -- it hands on s': the layers of its mixing, or of its refill if it has none; its energy and its volume used are added to the step's, and its draw ran on
--- from the step's weighted sum and volume drawn; no heater is touched
-pub record EventLeaves (m : TankDesign) (s : Progress) (e : Event) (s' : Progress) : Type 0 where
+-- from the step's weighted sum and volume drawn
+pub record EventLeaves (m : TankDesign) (s : DrawOff) (e : Event) (s' : DrawOff) : Type 0 where
   pub temps-mixed : (after : List Float) (rounds : ℕ) → e .mixing ≡ mixed (sorted after rounds) → s' .temps ≡ after
   pub temps-unmixed : e .mixing ≡ unmixed → s' .temps ≡ e .refill .temps
   pub energy : s' .totals .energy ≡ s .totals .energy ⊕ e .draw .energy
   pub used : s' .totals .used ≡ s .totals .used ⊕ volumeUsed (cylinderOf m) (e .draw .held)
   pub weighted : s' .totals .weighted ≡ e .draw .weighted
   pub drawn : s' .totals .drawn ≡ e .draw .drawn
-  pub flags : s' .flags ≡ s .flags
-  pub charged : s' .charged ≡ s .charged
-  pub losses : s' .losses ≡ s .losses
-  pub lines : s' .lines ≡ s .lines
 
 -- 10. Not finite: a layer, or energy or volume used so far, after an event
-abbrev pub EventNotFinite : TankDesign → Progress → Type 0
+abbrev pub EventNotFinite : TankDesign → DrawOff → Type 0
 EventNotFinite m s' = LayerNotFinite m (s' .temps) ⊎ NotFinite (s' .totals .energy) ⊎ NotFinite (s' .totals .used)
 
 -- n is the number that it draws, or 0
-abbrev pub EventDraws : TankDesign → Event → Progress → ℕ → Type 0
+abbrev pub EventDraws : TankDesign → Event → DrawOff → ℕ → Type 0
 EventDraws m e s' n = FirstOf ((9, e .mixing ≡ mixed unsorted) ∷ (10, EventNotFinite m s') ∷ []) n
 
 -- ---- one turn
 
+-- what each layer is offered
+abbrev pub offersOf : TankDesign → ℕ → Turn → ℕ → Float
+offersOf m h u = offersTo (heaterLayer m h) (offer (u .turned .ran) (maxEnergy m h))
+
 -- Sum2 of all offers
 abbrev pub inputOf : TankDesign → ℕ → Turn → Float
-inputOf m h u = sum2 (tabulate (offer (u .turned .ran) (maxEnergy m h) (heaterLayer m h)) (m .layers) 0)
+inputOf m h u = sum2 (tabulate (offersOf m h u) (m .layers) 0)
 
 -- what a turn came to after a mixing that left `after`. Its flag is on if the heater ran and the upper set point is neither missing nor reached on the layers
 -- that it left
-pub record FiguresOf (m : TankDesign) (h : ℕ) (s : Progress) (u : Turn) (after : List Float) : Type 0 where
+pub record FiguresOf (m : TankDesign) (h : ℕ) (s : Heating) (u : Turn) (after : List Float) : Type 0 where
   pub temps : u .turned .temps ≡ tempsAfter (cylinderOf m) (volumesOf m) (u .points) (s .temps) after (s .charged)
   pub charged : u .turned .charged ≡ chargedAfter (cylinderOf m) (volumesOf m) (u .points) (s .temps) after (s .charged)
   pub losses : u .turned .losses ≡ losses (cylinderOf m) (volumesOf m) (u .points) (s .temps) after (s .charged)
@@ -115,20 +119,20 @@ pub record FiguresOf (m : TankDesign) (h : ℕ) (s : Progress) (u : Turn) (after
   pub some-asked : ¬ (T (wideClose (u .turned .adjusted) zero-f)) → u .turned .supplied ≡ minOf2 (u .turned .adjusted) (maxEnergy m h)
   pub flag : T (u .turned .flag) ↔ (T (u .turned .ran) × ¬ (UpperMissingOrReached (u .points) (u .finish)))
 
-abbrev pub AfterMixing : TankDesign → ℕ → Progress → Turn → Mixing → Type 0
+abbrev pub AfterMixing : TankDesign → ℕ → Heating → Turn → Mixing → Type 0
 AfterMixing m h s u (sorted after k) = FiguresOf m h s u after × (u .turned .rounds ≡ k)
 AfterMixing m h s u unsorted = Unit {0}
 
--- the turn of the heater given as h, in a step with the arguments a that began with the flags fs, which began where the work had come to s. The heater ran if
+-- the turn of the heater given as h, in a step with the arguments a that began with the flags fs, which began where heating had come to s. The heater ran if
 -- it has an upper set point, and its thermostat layer is at or under a lower one or its flag was on
-pub record TurnOf (m : TankDesign) (a : Step) (fs : List Bool) (h : ℕ) (s : Progress) (u : Turn) : Type 0 where
+pub record TurnOf (m : TankDesign) (a : Step) (fs : List Bool) (h : ℕ) (s : Heating) (u : Turn) : Type 0 where
   pub heater : u .heater ≡ h
   pub points : u .points ≡ setPointsOf a h
   pub before : u .before ≡ s .temps
   pub start : u .start ≡ getD (s .temps) (thermostatLayer m h) nan
   pub ran : T (u .turned .ran) ↔ (HasUpper (u .points) × (AtOrUnderLower (u .points) (u .start) ⊎ T (getD fs h false)))
   pub mixing : MixingOf (m .layers) (volumesOf m)
-      (heated (cylinderOf m) (volumesOf m) (offer (u .turned .ran) (maxEnergy m h) (heaterLayer m h)) (s .temps))
+      (heated (cylinderOf m) (volumesOf m) (offersOf m h u) (s .temps))
       (u .turned .mixing)
   pub after-mixing : AfterMixing m h s u (u .turned .mixing)
   pub finish : u .finish ≡ getD (u .turned .temps) (thermostatLayer m h) nan
@@ -141,8 +145,8 @@ pub record LineTells (u : Turn) (line : HeaterLine) : Type 0 where
   pub losses : line .losses ≡ u .turned .losses
   pub rounds : line .rounds ≡ u .turned .rounds
 
--- it hands on s': its layers and charges; its flag and its line in its heater's own place, the other places kept; its losses added; nothing drawn
-pub record TurnLeaves (s : Progress) (u : Turn) (s' : Progress) : Type 0 where
+-- it hands on s': its layers and charges; its flag and its line in its heater's own place, the other places kept; its losses added
+pub record TurnLeaves (s : Heating) (u : Turn) (s' : Heating) : Type 0 where
   pub temps : s' .temps ≡ u .turned .temps
   pub charged : s' .charged ≡ u .turned .charged
   pub flag-place : u .heater < length (s .flags)
@@ -150,8 +154,6 @@ pub record TurnLeaves (s : Progress) (u : Turn) (s' : Progress) : Type 0 where
   pub line-place : u .heater < length (s .lines)
   pub lines : (line : HeaterLine) × LineTells u line × (s' .lines ≡ set (s .lines) (u .heater) line)
   pub losses : s' .losses ≡ s .losses ⊕ u .turned .losses
-  pub totals : s' .totals ≡ s .totals
-  pub average : s' .average ≡ s .average
 
 -- 10. Not finite: a layer or its figures after a heater's turn
 abbrev pub TurnNotFinite : TankDesign → Turn → Type 0
@@ -162,83 +164,65 @@ TurnNotFinite m u =
 abbrev pub TurnDraws : TankDesign → Turn → ℕ → Type 0
 TurnDraws m u n = FirstOf ((9, u .turned .mixing ≡ unsorted) ∷ (10, TurnNotFinite m u) ∷ []) n
 
--- ---- one after the other
-
--- The parts ps of the work, events or turns, from s: each of ks had its part, in their order, and each began on what the one before handed on: `Part k s p s'`
--- is the part p of k, from s to s'. Either all of them drew 0, and Then holds of what the last handed on; or the last of ps drew a number, for which Stopped
--- holds.
-abbrev pub InSequence : {K P : Type 0}
-    → (K → Progress → P → Progress → Type 0)
-    → (P → Progress → ℕ → Type 0)
-    → (Progress → Type 0)
-    → (ℕ → Type 0)
-    → Progress
-    → List K
-    → List P
-    → Type 0
-InSequence Part Draws Then Stopped s [] [] = Then s
-InSequence Part Draws Then Stopped s [] (p ∷ ps) = ⊥
-InSequence Part Draws Then Stopped s (k ∷ ks) [] = ⊥
-InSequence Part Draws Then Stopped s (k ∷ ks) (p ∷ ps) =
-    (s' : Progress) × Part k s p s'
-    × ((Draws p s' 0 × InSequence Part Draws Then Stopped s' ks ps) ⊎ ((n : ℕ) × (0 < n) × Draws p s' n × Stopped n × (ps ≡ [])))
-
 -- ---- the course of a step
 
--- a step begins on the layers and flags of the state st, with nothing drawn and nothing charged
-pub record Opens (st : State) (s : Progress) : Type 0 where
+-- the events begin on the layers of the state st, with nothing drawn
+pub record EventsOpen (st : State) (s : DrawOff) : Type 0 where
   pub temps : s .temps ≡ st .temps
-  pub flags : s .flags ≡ st .flags
   pub totals : s .totals ≡ record { energy = zero-f; used = zero-f; weighted = zero-f; drawn = zero-f }
+
+-- x is the average, taken where the events ended: weighted sum / volume drawn, or the top layer if that volume is wide-close to 0
+pub record Averages (m : TankDesign) (s : DrawOff) (x : Float) : Type 0 where
+  pub some-drawn : ¬ (T (wideClose (s .totals .drawn) zero-f)) → x ≡ s .totals .weighted ⊘ s .totals .drawn
+  pub none-drawn : T (wideClose (s .totals .drawn) zero-f) → x ≡ getD (s .temps) (m .layers - 1) nan
+
+-- the turns begin on the layers where the events ended and on the flags of the state st, with nothing charged
+pub record TurnsOpen (st : State) (d : DrawOff) (s : Heating) : Type 0 where
+  pub temps : s .temps ≡ d .temps
+  pub flags : s .flags ≡ st .flags
   pub charged : s .charged ≡ replicate 32 zero-f
   pub losses : s .losses ≡ zero-f
   pub lines : s .lines ≡ replicate 8 (record { flag = false; adjusted = zero-f; supplied = zero-f; losses = zero-f; rounds = 0 })
 
--- the average is taken at s, after the events, and noted in s': weighted sum / volume drawn, or the top layer if that volume is wide-close to 0
-pub record Averages (m : TankDesign) (s s' : Progress) : Type 0 where
-  pub some-drawn : ¬ (T (wideClose (s .totals .drawn) zero-f)) → s' .average ≡ s .totals .weighted ⊘ s .totals .drawn
-  pub none-drawn : T (wideClose (s .totals .drawn) zero-f) → s' .average ≡ getD (s .temps) (m .layers - 1) nan
-  pub temps : s' .temps ≡ s .temps
-  pub totals : s' .totals ≡ s .totals
-  pub flags : s' .flags ≡ s .flags
-  pub charged : s' .charged ≡ s .charged
-  pub losses : s' .losses ≡ s .losses
-  pub lines : s' .lines ≡ s .lines
-
 -- the heaters' losses × 0.75
-abbrev pub recoverableOf : Progress → Float
+abbrev pub recoverableOf : Heating → Float
 recoverableOf s = s .losses ⊛ dbl 0x3fe8_0000_0000_0000
 
 -- 10. Not finite: average or recoverable at the end
-abbrev pub EndNotFinite : Progress → Type 0
-EndNotFinite s = NotFinite (s .average) ⊎ NotFinite (recoverableOf s)
+abbrev pub EndNotFinite : Float → Heating → Type 0
+EndNotFinite x s = NotFinite x ⊎ NotFinite (recoverableOf s)
 
 -- a step that all turns have passed ends there, or with 10
-abbrev pub Closes : End → Progress → Type 0
-Closes end s = (EndNotFinite s × (end ≡ refused 10)) ⊎ (¬ (EndNotFinite s) × (end ≡ done s))
+abbrev pub Closes : End Outcome → DrawOff → Float → Heating → Type 0
+Closes end d x s =
+    (EndNotFinite x s × (end ≡ refused 10))
+    ⊎ (¬ (EndNotFinite x s) × (end ≡ done (record { drawn = d; average = x; heated = s })))
 
 -- an event of the step, and a turn
-abbrev pub EventPart : TankDesign → Step → Float → Progress → Event → Progress → Type 0
-EventPart m a v s e s' = EventOf m (a .feed) v s e × EventLeaves m s e s'
+abbrev pub EventPart : TankDesign → Step → Float → DrawOff → Event → DrawOff → Type 0
+EventPart m a v s e s' = EventOf m (feedOf a) v s e × EventLeaves m s e s'
 
-abbrev pub TurnPart : TankDesign → Step → List Bool → ℕ → Progress → Turn → Progress → Type 0
+abbrev pub TurnPart : TankDesign → Step → List Bool → ℕ → Heating → Turn → Heating → Type 0
 TurnPart m a fs h s u s' = TurnOf m a fs h s u × TurnLeaves s u s'
 
--- the turns us, in working order, from s to the step's end
-abbrev pub Turns : TankDesign → Step → List Bool → Progress → List Turn → End → Type 0
-Turns m a fs s us end =
-    InSequence (TurnPart m a fs) (λ (u : Turn) (x : Progress). TurnDraws m u) (Closes end) (λ (n : ℕ). end ≡ refused n) s (workingOrder (fixedOf m)) us
+-- the turns us, in working order, from s to the step's end, where the events ended at d with the average x
+abbrev pub Turns : TankDesign → Step → List Bool → DrawOff → Float → Heating → List Turn → End Outcome → Type 0
+Turns m a fs d x s us end =
+    InSequence (TurnPart m a fs) (λ (u : Turn) (s' : Heating). TurnDraws m u) (Closes end d x) (λ (n : ℕ). end ≡ refused n) s (workingOrder (fixedOf m)) us
+
+-- the average and the turns of the work w, whose events ended at d
+abbrev pub ThenTurns : TankDesign → State → Step → Work → DrawOff → Type 0
+ThenTurns m st a w d =
+    (x : Float) × Averages m d x × ((s : Heating) × TurnsOpen st d s × Turns m a (st .flags) d x s (w .turns) (w .end))
 
 -- the events of the work w, from s, and then the average and the turns; or none of these, where an event ended the step
-abbrev pub EventsThenTurns : TankDesign → Step → List Bool → Progress → Work → Type 0
-EventsThenTurns m a fs s w =
-    InSequence (EventPart m a) (EventDraws m)
-    (λ (x : Progress). (x' : Progress) × Averages m x x' × Turns m a fs x' (w .turns) (w .end))
-    (λ (n : ℕ). (w .end ≡ refused n) × (w .turns ≡ []))
+abbrev pub EventsThenTurns : TankDesign → State → Step → Work → DrawOff → Type 0
+EventsThenTurns m st a w s =
+    InSequence (EventPart m a) (EventDraws m) (ThenTurns m st a w) (λ (n : ℕ). (w .end ≡ refused n) × (w .turns ≡ []))
     s (tabulate (eventVolume a) (a .events) 0) (w .events)
 
 -- A step from the state st is refused for the first of 1 to 8 that holds, with nothing worked; or none holds and it is worked, from its opening on
 abbrev pub Course : TankDesign → State → Step → Work → Type 0
 Course m st a w =
     ((n : ℕ) × (0 < n) × StepRefusal m st a n × (w .end ≡ refused n) × (w .events ≡ []) × (w .turns ≡ []))
-    ⊎ (StepRefusal m st a 0 × ((s : Progress) × Opens st s × EventsThenTurns m a (st .flags) s w))
+    ⊎ (StepRefusal m st a 0 × ((s : DrawOff) × EventsOpen st s × EventsThenTurns m st a w s))

@@ -2,7 +2,7 @@
 -- report, or of what a call answers.
 use Prim.Native.Nat.{ℕ, zero, suc}
 use mathlib.Core.Bool.{false}
-use mathlib.Core.List.{List, [], _∷_, _++_}
+use mathlib.Core.List.{List, _++_}
 use lib.ListN.{drop, replicate}
 use Rattle.numeric.specs.Double.{zero-f}
 use Rattle.mixing.specs.Limits.{maxLayers}
@@ -11,7 +11,8 @@ use Rattle.tank_model.specs.declared.TankDesign.{TankDesign}
 use Rattle.tank_model.specs.declared.Step.{Step}
 use Rattle.tank_model.specs.Fixed.{State, fixedOf}
 use Rattle.tank_model.specs.Checks.{makeRefusal}
-use Rattle.tank_model.specs.Work.{End, refused, done, Work, stop, work}
+use Rattle.tank_model.specs.Run.{End, refused, done, endedAt, Worked, Run, run}
+use Rattle.tank_model.specs.Work.{Outcome, Work, stop, work}
 
 -- a call on a living tank
 pub data Call : Type 0 where
@@ -21,32 +22,42 @@ pub data Call : Type 0 where
 abbrev pub designRefusal : TankDesign → ℕ
 designRefusal m = makeRefusal (fixedOf m) (m .initial)
 
+-- what the calls carry on: the design that the tank has, and its state
+pub record Held : Type 0 where
+  pub design : TankDesign
+  pub state : State
+
 -- each layer at the initial temperature, and every flag off
-abbrev pub start : TankDesign → State
+abbrev pub start : TankDesign → Held
 start m = record {
-  temps = replicate (m .layers) (m .initial) ++ drop (m .layers) (replicate maxLayers zero-f);
-  flags = replicate maxHeaters false;
+  design = m;
+  state = record {
+    temps = replicate (m .layers) (m .initial) ++ drop (m .layers) (replicate maxLayers zero-f);
+    flags = replicate maxHeaters false;
+  };
 }
 
--- a refused call changes nothing
-abbrev pub carry : State → End → State
-carry st (refused n) = st
-carry st (done s) = record { temps = s .temps; flags = s .flags }
-
--- the state that the works ws leave
-unfoldable pub carried : State → List Work → State
-carried st [] = st
-carried st (w ∷ ws) = carried (carry st (w .end)) ws
+-- a refused call changes nothing, and no step the design
+abbrev pub carry : Held → End Outcome → Held
+carry x (refused n) = x
+carry x (done s) = record { design = x .design; state = record { temps = s .heated .temps; flags = s .heated .flags } }
 
 -- Where make is refused there are no layers: each step is refused for that, and nothing is worked. `n` is what make is refused for, or 0.
-unfoldable pub workOf : TankDesign → ℕ → State → Call → Work
-workOf m zero st (step a) = work (fixedOf m) st a
-workOf m (suc n) st (step a) = stop 1
+unfoldable pub callWork : ℕ → Call → Held → Work
+callWork zero (step a) x = work (fixedOf (x .design)) (x .state) a
+callWork (suc n) (step a) x = stop 1
 
--- each call worked from the state that the one before left
-unfoldable pub run : (State → Call → Work) → State → List Call → List Work
-run f st [] = []
-run f st (x ∷ xs) = let w = f st x in w ∷ run f (carry st (w .end)) xs
+-- a call's refusal is its own: it ends no list
+unfoldable pub workCall : ℕ → Call → Held → Worked Work Held
+workCall n call x = let w = callWork n call x in record { part = w; number = 0; leaves = carry x (w .end) }
+
+-- each call from what the one before left
+abbrev pub callRun : TankDesign → List Call → Run Work Held
+callRun m xs = run (workCall (designRefusal m)) xs (start m)
 
 unfoldable pub history : TankDesign → List Call → List Work
-history m xs = run (workOf m (designRefusal m)) (start m) xs
+history m xs = callRun m xs .parts
+
+-- what the calls xs leave
+unfoldable pub heldAfter : TankDesign → List Call → Held
+heldAfter m xs = endedAt (start m) (callRun m xs .end)

@@ -10,12 +10,13 @@ use lib.ListN.{length, getD, take, replicate}
 use lib.Ieee.{Float, nan, le, eq}
 use Rattle.numeric.specs.Double.{zero-f}
 use Rattle.mixing.specs.Rearrange.{Mixing, sorted, unsorted}
-use Rattle.draw_off.specs.Event.{EventMixing, unmixed, mixed, Event}
+use Rattle.draw_events.specs.Event.{EventMixing, unmixed, mixed, Event}
 use Rattle.tank_model.specs.declared.TankDesign.{TankDesign}
 use Rattle.tank_model.specs.Fixed.{State, fixedOf}
 use Rattle.tank_model.specs.Order.{workingOrder}
-use Rattle.tank_model.specs.Work.{Progress, Turn, End, refused, done, Work, zeroLine}
-use Rattle.tank_model.specs.History.{Call, step, designRefusal, start, carried, history}
+use Rattle.tank_model.specs.Run.{End, refused, done}
+use Rattle.tank_model.specs.Work.{Turn, Outcome, Work, zeroLine}
+use Rattle.tank_model.specs.History.{Call, step, designRefusal, Held, history, heldAfter}
 use Rattle.tank_model.specs.Members.{All, Some}
 use Rattle.tank_model.specs.Arguments.{maxEnergy, InWorkingOrder, AtOrUnderLower, UpperMissingOrReached}
 use Rattle.tank_model.specs.Refusals.{MakeRefusal}
@@ -36,11 +37,11 @@ abbrev pub InTurn : (Turn → Type 0) → ℕ → Work → Type 0
 InTurn P h w = T (accepted (w .end)) × Some (λ (u : Turn). (u .heater ≡ h) × P u) (w .turns)
 
 -- a mixing in a step that came to the end e handed on n layers in nondecreasing order, or drew refusal 9
-abbrev pub OrderedOrNine : ℕ → End → Mixing → Type 0
+abbrev pub OrderedOrNine : ℕ → End Outcome → Mixing → Type 0
 OrderedOrNine n e (sorted temps k) = Nondecreasing n temps
 OrderedOrNine n e unsorted = e ≡ refused 9
 
-abbrev pub EventOrderedOrNine : ℕ → End → EventMixing → Type 0
+abbrev pub EventOrderedOrNine : ℕ → End Outcome → EventMixing → Type 0
 EventOrderedOrNine n e unmixed = Unit {0}
 EventOrderedOrNine n e (mixed x) = OrderedOrNine n e x
 
@@ -59,8 +60,8 @@ abbrev pub AllRightlySupplied : TankDesign → Work → Type 0
 AllRightlySupplied m w = All (λ (u : Turn). T (passed (u .turned .mixing)) → RightlySupplied m u (u .turned .supplied)) (w .turns)
 
 -- each turn has its line, at its heater's given place
-abbrev pub AllTold : Work → Progress → Type 0
-AllTold w s = All (λ (u : Turn). LineTells u (getD (s .lines) (u .heater) zeroLine)) (w .turns)
+abbrev pub AllTold : Work → Outcome → Type 0
+AllTold w s = All (λ (u : Turn). LineTells u (getD (s .heated .lines) (u .heater) zeroLine)) (w .turns)
 
 -- nothing was worked, and the number is 1
 abbrev pub RefusedWithOne : Work → Type 0
@@ -87,47 +88,56 @@ pub record Starts (m : TankDesign) (st : State) : Type 0 where
   pub places : length (st .temps) ≡ 32
   pub flags : st .flags ≡ replicate 8 false
 
--- a call that came to this end leaves st': an accepted one exactly its layers and flags, a refused one the state as it was
-abbrev pub Carries : State → End → State → Type 0
-Carries st (refused n) st' = st' ≡ st
-Carries st (done s) st' = (st' .temps ≡ s .temps) × (st' .flags ≡ s .flags)
+-- a call that came to this end leaves y: an accepted one exactly its layers and flags, a refused one the state as it was; and no step changes the design
+abbrev pub CarriesState : State → End Outcome → State → Type 0
+CarriesState st (refused n) st' = st' ≡ st
+CarriesState st (done s) st' = (st' .temps ≡ s .heated .temps) × (st' .flags ≡ s .heated .flags)
 
--- the course of a call
-abbrev pub CourseOf : TankDesign → State → Call → Work → Type 0
-CourseOf m st (step a) w = Course m st a w
+abbrev pub Carries : Held → End Outcome → Held → Type 0
+Carries x e y = (y .design ≡ x .design) × CarriesState (x .state) e (y .state)
 
--- works and states of a list of calls on a made tank: the call i is worked from the state i, and leaves the state i + 1
-pub record ListCourse (m : TankDesign) (calls : List Call) (works : ℕ → Work) (states : ℕ → State) : Type 0 where
-  pub starts : Starts m (states 0)
-  pub course : (i : ℕ) → i < length calls → CourseOf m (states i) (getD calls i noCall) (works i)
-  pub carries : (i : ℕ) → i < length calls → Carries (states i) (works i .end) (states (suc i))
+-- the course of a call on what the tank holds
+abbrev pub CourseOf : Held → Call → Work → Type 0
+CourseOf x (step a) w = Course (x .design) (x .state) a w
 
--- the work of the call i, and the state that the first i calls left
+-- works of a list of calls on a made tank, and what it holds: the call i is worked from held i, and leaves held (i + 1)
+pub record ListCourse (m : TankDesign) (calls : List Call) (works : ℕ → Work) (held : ℕ → Held) : Type 0 where
+  pub made : held 0 .design ≡ m
+  pub starts : Starts m (held 0 .state)
+  pub course : (i : ℕ) → i < length calls → CourseOf (held i) (getD calls i noCall) (works i)
+  pub carries : (i : ℕ) → i < length calls → Carries (held i) (works i .end) (held (suc i))
+
+-- the work of the call i, and what the first i calls left
 abbrev pub workAt : TankDesign → List Call → ℕ → Work
 workAt m calls i = getD (history m calls) i noWork
 
-abbrev pub stateAt : TankDesign → List Call → ℕ → State
-stateAt m calls i = carried (start m) (take i (history m calls))
+abbrev pub heldAt : TankDesign → List Call → ℕ → Held
+heldAt m calls i = heldAfter m (take i calls)
+
+abbrev pub designAt : TankDesign → List Call → ℕ → TankDesign
+designAt m calls i = heldAt m calls i .design
 
 -- m: make's arguments; calls: the calls' arguments
 pub record HistoryDemand (m : TankDesign) (calls : List Call) : Type 0 where
+  -- the design stays make's
+  pub design : (i : ℕ) → designAt m calls i ≡ m
   -- after the list a flag is on exactly when 01 says
-  pub flags : (h : ℕ) → T (getD (stateAt m calls (length calls) .flags) h false) ↔ OnSince h (history m calls)
+  pub flags : (h : ℕ) → T (getD (heldAfter m calls .state .flags) h false) ↔ OnSince h (history m calls)
   -- every turn, in refused steps too as far as it got, supplied zero if it ran off and never more than its rated power × step length
-  pub supplies : (i : ℕ) → i < length calls → AllRightlySupplied m (workAt m calls i)
+  pub supplies : (i : ℕ) → i < length calls → AllRightlySupplied (designAt m calls i) (workAt m calls i)
   -- an accepted step ends with the line of each turn at its heater's given place
-  pub reported : (i : ℕ) → i < length calls → (s : Progress) → workAt m calls i .end ≡ done s → AllTold (workAt m calls i) s
+  pub reported : (i : ℕ) → i < length calls → (s : Outcome) → workAt m calls i .end ≡ done s → AllTold (workAt m calls i) s
   -- every mixing, of events and of turns, in refused steps too, handed on ordered layers or drew refusal 9
-  pub mixings : (i : ℕ) → i < length calls → MixedOrNine (m .layers) (workAt m calls i)
+  pub mixings : (i : ℕ) → i < length calls → MixedOrNine (designAt m calls i .layers) (workAt m calls i)
   -- a refused step has a number, which is not 0
   pub refusals : (i : ℕ) → i < length calls → (k : ℕ) → workAt m calls i .end ≡ refused k → 0 < k
   -- each call is worked, and no more
   pub works-all : length (history m calls) ≡ length calls
   -- the order in which the turns are worked
-  pub order : InWorkingOrder m (workingOrder (fixedOf m))
+  pub order : (i : ℕ) → InWorkingOrder (designAt m calls i) (workingOrder (fixedOf (designAt m calls i)))
   -- what make is refused for, by 01's sentences
   pub make-refusal : MakeRefusal m (designRefusal m)
   -- a refused make gives a tank of no layers: every step is refused for that
   pub refused-make : (i : ℕ) → i < length calls → 0 < designRefusal m → RefusedWithOne (workAt m calls i)
   -- what the turns, the mixings and the accepted steps are
-  pub course : designRefusal m ≡ 0 → ListCourse m calls (workAt m calls) (stateAt m calls)
+  pub course : designRefusal m ≡ 0 → ListCourse m calls (workAt m calls) (heldAt m calls)

@@ -1,7 +1,9 @@
 -- What a tank is made from and a step changes, a step's checks and work, the history of a list of calls, and what demand 3 says of it.
 pub mod Fixed
 pub mod Order
+pub mod FirstRefusal
 pub mod Checks
+pub mod Run
 pub mod Work
 pub mod History
 pub mod Members

@@ -2,7 +2,7 @@
 -- turns, and where it ended. The step's answer is made from that end (Calls.antt).
 use Prim.Native.Nat.{ℕ, zero, suc, _-_}
 use mathlib.Core.Bool.{Bool, false, cond, _&&_}
-use mathlib.Core.List.{List, [], _∷_, _++_}
+use mathlib.Core.List.{List, []}
 use lib.ListN.{getD, set, replicate}
 use lib.Ieee.{Float, nan}
 use lib.Ieee.Scale.{finite}
@@ -11,30 +11,79 @@ use Rattle.numeric.specs.Close.{wideClose}
 use Rattle.numeric.specs.Tabulate.{tabulate}
 use Rattle.mixing.specs.Limits.{maxLayers}
 use Rattle.cylinder.specs.declared.Cylinder.{Cylinder}
-use Rattle.cylinder.specs.Layers.{layerVolumes}
-use Rattle.draw_off.specs.declared.Totals.{Totals}
-use Rattle.draw_off.specs.Event.{Event, drawAll}
+use Rattle.draw_events.specs.declared.Totals.{Totals}
+use Rattle.draw_off.specs.declared.cold.Feed.{Feed}
+use Rattle.draw_events.specs.Event.{Event, eventOf, tempsAfterEvent, totalsAfterEvent, eventNumber}
 use Rattle.heating.specs.declared.SetPoints.{SetPoints}
-use Rattle.heating.specs.Turn.{Turned, turn, turnNumber}
+use Rattle.immersion_heater.specs.Turn.{Turned, turn, turnNumber}
 use Rattle.working_order.specs.Order.{maxHeaters}
 use Rattle.tank_model.specs.declared.HeaterLine.{HeaterLine}
 use Rattle.tank_model.specs.declared.Step.{Step}
 use Rattle.tank_model.specs.Fixed.{Fixed, State, immersionOf}
 use Rattle.tank_model.specs.Order.{workingOrder}
 use Rattle.tank_model.specs.Checks.{pointsOf, stepRefusal}
+use Rattle.tank_model.specs.Run.{End, refused, done, endBy, Worked, Run, run}
 
--- ---- what has happened
+-- ---- the draw events
 
--- where a step's work has come to: the layers, what it has drawn, the average draw-off temperature, the flags, what each layer was charged with, the heaters'
--- losses, and the heaters' lines
-pub record Progress : Type 0 where
+-- what drawing carries from event to event: the layers, and what the step has drawn
+pub record DrawOff : Type 0 where
   pub temps : List Float
   pub totals : Totals
-  pub average : Float
-  pub flags : List Bool
+
+-- before the first event nothing is drawn
+abbrev pub undrawn : List Float → DrawOff
+undrawn temps = record { temps = temps; totals = record { energy = zero-f; used = zero-f; weighted = zero-f; drawn = zero-f } }
+
+abbrev pub afterEvent : Cylinder → Event → DrawOff → DrawOff
+afterEvent c e s = record {
+  temps = tempsAfterEvent e;
+  totals = totalsAfterEvent c e (s .totals);
+}
+
+-- the event of the volume v, with this feed
+unfoldable pub workEvent : Fixed → Feed → Float → DrawOff → Worked Event DrawOff
+workEvent f feed v s =
+    let c = f .cylinder in
+    let e = eventOf c (f .vol) feed v (s .temps) (s .totals) in
+    record { part = e; number = eventNumber c e (s .totals); leaves = afterEvent c e s }
+
+-- the step's feed, and the volumes of its events
+abbrev pub feedIn : Step → Feed
+feedIn a = record { temperature = a .feed }
+
+abbrev pub wantedVolumes : Step → List Float
+wantedVolumes a = tabulate (λ (i : ℕ). getD (a .volumes) i nan) (a .events) 0
+
+unfoldable pub events : Fixed → Step → List Float → Run Event DrawOff
+events f a temps = run (workEvent f (feedIn a)) (wantedVolumes a) (undrawn temps)
+
+-- weighted sum / volume drawn, or the top layer after the events if that volume is wide-close to 0
+unfoldable pub averageOf : Cylinder → DrawOff → Float
+averageOf c s = cond (wideClose (s .totals .drawn) zero-f) (getD (s .temps) (c .layers - 1) nan) (s .totals .weighted ⊘ s .totals .drawn)
+
+-- ---- the heaters' turns
+
+-- what heating carries from turn to turn: the layers, what each of them was charged with, the flags, the heaters' losses, and the heaters' lines
+pub record Heating : Type 0 where
+  pub temps : List Float
   pub charged : List Float
+  pub flags : List Bool
   pub losses : Float
   pub lines : List HeaterLine
+
+abbrev pub zeroLine : HeaterLine
+zeroLine = record { flag = false; adjusted = zero-f; supplied = zero-f; losses = zero-f; rounds = 0 }
+
+-- before the first turn nothing is charged
+abbrev pub unheated : List Float → List Bool → Heating
+unheated temps flags = record {
+  temps = temps;
+  charged = replicate maxLayers zero-f;
+  flags = flags;
+  losses = zero-f;
+  lines = replicate maxHeaters zeroLine;
+}
 
 -- a turn: whose, with which set points, the layers before it, the thermostat layer where it began, what it came to, and the thermostat layer where it ended
 pub record Turn : Type 0 where
@@ -45,83 +94,15 @@ pub record Turn : Type 0 where
   pub turned : Turned
   pub finish : Float
 
--- a step's work ends with the number of a refusal, or with all done
-pub data End : Type 0 where
-  refused : ℕ → End
-  done : Progress → End
-
-pub record Work : Type 0 where
-  pub events : List Event
-  pub turns : List Turn
-  pub end : End
-
--- nothing was worked
-abbrev pub stop : ℕ → Work
-stop n = record { events = []; turns = []; end = refused n }
-
-abbrev pub nothingMore : Progress → Work
-nothingMore s = record { events = []; turns = []; end = done s }
-
--- what was worked, and then what is worked from where it ended
-unfoldable pub resume : List Event → List Turn → End → (Progress → Work) → Work
-resume es us (refused n) f = record { events = es; turns = us; end = refused n }
-resume es us (done s) f = let w = f s in record { events = es ++ w .events; turns = us ++ w .turns; end = w .end }
-
-unfoldable pub andThen : Work → (Progress → Work) → Work
-andThen w f = resume (w .events) (w .turns) (w .end) f
-
--- the end by the number of a refusal, or 0
-unfoldable pub endBy : ℕ → Progress → End
-endBy zero s = done s
-endBy (suc n) s = refused (suc n)
-
--- ---- the draw events
-
-abbrev pub withDraw : List Float → Totals → Progress → Progress
-withDraw temps t s = record {
-  temps = temps;
-  totals = t;
-  average = s .average;
-  flags = s .flags;
-  charged = s .charged;
-  losses = s .losses;
-  lines = s .lines;
-}
-
-unfoldable pub events : Cylinder → Float → List Float → Progress → Work
-events c feed vs s =
-    let d = drawAll c feed vs 0 (s .temps) (s .totals) in
-    record { events = d .events; turns = []; end = endBy (d .end .number) (withDraw (d .end .temps) (d .end .totals) s) }
-
--- the volumes of the step's events
-abbrev pub wantedVolumes : Step → List Float
-wantedVolumes a = tabulate (λ (i : ℕ). getD (a .volumes) i nan) (a .events) 0
-
--- weighted sum / volume drawn, or the top layer after the events if that volume is wide-close to 0
-unfoldable pub averageOf : Cylinder → Progress → Float
-averageOf c s = cond (wideClose (s .totals .drawn) zero-f) (getD (s .temps) (c .layers - 1) nan) (s .totals .weighted ⊘ s .totals .drawn)
-
-unfoldable pub withAverage : Cylinder → Progress → Progress
-withAverage c s = record {
-  temps = s .temps;
-  totals = s .totals;
-  average = averageOf c s;
-  flags = s .flags;
-  charged = s .charged;
-  losses = s .losses;
-  lines = s .lines;
-}
-
--- ---- a heater's turn
-
-unfoldable pub turnOf : Fixed → Step → ℕ → Progress → Turn
-turnOf f a h s =
+-- the turn of the heater given as h, with the set points that each heater has in this step
+unfoldable pub turnOf : Fixed → (ℕ → SetPoints) → ℕ → Heating → Turn
+turnOf f points h s =
     let c = f .cylinder in
     let x = immersionOf f h in
-    let u = turn c (layerVolumes c) x (pointsOf a h) (s .temps) (s .charged) (getD (s .flags) h false) in
+    let u = turn c (f .vol) x (points h) (s .temps) (s .charged) (getD (s .flags) h false) in
     record {
       heater = h;
-      points = pointsOf a h;
+      points = points h;
       before = s .temps;
       start = getD (s .temps) (x .thermostat) nan;
       turned = u;
@@ -131,61 +112,61 @@ turnOf f a h s =
 abbrev pub lineOf : Turned → HeaterLine
 lineOf u = record { flag = u .flag; adjusted = u .adjusted; supplied = u .supplied; losses = u .losses; rounds = u .rounds }
 
-unfoldable pub afterTurn : Turn → Progress → Progress
-afterTurn u s = record {
-  temps = u .turned .temps;
-  totals = s .totals;
-  average = s .average;
-  flags = set (s .flags) (u .heater) (u .turned .flag);
-  charged = u .turned .charged;
-  losses = s .losses ⊕ u .turned .losses;
-  lines = set (s .lines) (u .heater) (lineOf (u .turned));
+-- after the turn of the heater given as h, which came to u
+abbrev pub afterTurn : ℕ → Turned → Heating → Heating
+afterTurn h u s = record {
+  temps = u .temps;
+  charged = u .charged;
+  flags = set (s .flags) h (u .flag);
+  losses = s .losses ⊕ u .losses;
+  lines = set (s .lines) h (lineOf u);
 }
 
-unfoldable pub heaterTurn : Fixed → Step → ℕ → Progress → Work
-heaterTurn f a h s =
-    let u = turnOf f a h s in
-    record { events = []; turns = u ∷ []; end = endBy (turnNumber (f .cylinder) (u .turned)) (afterTurn u s) }
+unfoldable pub workTurn : Fixed → (ℕ → SetPoints) → ℕ → Heating → Worked Turn Heating
+workTurn f points h s =
+    let u = turnOf f points h s in
+    record { part = u; number = turnNumber (f .cylinder) (u .turned); leaves = afterTurn h (u .turned) s }
 
-unfoldable pub turns : Fixed → Step → List ℕ → Progress → Work
-turns f a [] s = nothingMore s
-turns f a (h ∷ hs) s = andThen (heaterTurn f a h s) (λ s'. turns f a hs s')
+unfoldable pub turns : Fixed → (ℕ → SetPoints) → List Float → List Bool → Run Turn Heating
+turns f points temps flags = run (workTurn f points) (workingOrder f) (unheated temps flags)
 
 -- ---- a step
 
-abbrev pub zeroLine : HeaterLine
-zeroLine = record { flag = false; adjusted = zero-f; supplied = zero-f; losses = zero-f; rounds = 0 }
+-- what an accepted step came to: after its events, the average draw-off temperature, and after its turns
+pub record Outcome : Type 0 where
+  pub drawn : DrawOff
+  pub average : Float
+  pub heated : Heating
 
-unfoldable pub opening : State → Progress
-opening st = record {
-  temps = st .temps;
-  totals = record { energy = zero-f; used = zero-f; weighted = zero-f; drawn = zero-f };
-  average = zero-f;
-  flags = st .flags;
-  charged = replicate maxLayers zero-f;
-  losses = zero-f;
-  lines = replicate maxHeaters zeroLine;
-}
+pub record Work : Type 0 where
+  pub events : List Event
+  pub turns : List Turn
+  pub end : End Outcome
+
+-- nothing was worked
+abbrev pub stop : ℕ → Work
+stop n = record { events = []; turns = []; end = refused n }
 
 -- recoverable = the heaters' losses added plainly × 0.75
-unfoldable pub recoverable : Progress → Float
+unfoldable pub recoverable : Heating → Float
 recoverable s = s .losses ⊛ dbl 0x3fe8_0000_0000_0000
 
 -- average or recoverable at the end
-unfoldable pub closed : End → End
-closed (refused n) = refused n
-closed (done s) = endBy (cond (finite (s .average) && finite (recoverable s)) 0 10) s
+unfoldable pub close : DrawOff → Float → End Heating → End Outcome
+close d x (refused n) = refused n
+close d x (done s) = endBy (cond (finite x && finite (recoverable s)) 0 10) (record { drawn = d; average = x; heated = s })
 
-abbrev pub closing : Work → Work
-closing w = record { events = w .events; turns = w .turns; end = closed (w .end) }
-
-abbrev pub allTurns : Fixed → Step → Progress → Work
-allTurns f a s = turns f a (workingOrder f) (withAverage (f .cylinder) s)
+-- the turns of a step whose events ended so
+unfoldable pub thenTurns : Fixed → State → Step → List Event → End DrawOff → Work
+thenTurns f st a es (refused n) = record { events = es; turns = []; end = refused n }
+thenTurns f st a es (done d) =
+    let r = turns f (pointsOf a) (d .temps) (st .flags) in
+    record { events = es; turns = r .parts; end = close d (averageOf (f .cylinder) d) (r .end) }
 
 -- the first refusal of the checks, and else the events and then the heaters in turn
 unfoldable pub begin : Fixed → State → Step → ℕ → Work
 begin f st a (suc n) = stop (suc n)
-begin f st a zero = closing (andThen (events (f .cylinder) (a .feed) (wantedVolumes a) (opening st)) (λ s. allTurns f a s))
+begin f st a zero = let r = events f a (st .temps) in thenTurns f st a (r .parts) (r .end)
 
 unfoldable pub work : Fixed → State → Step → Work
 work f st a = begin f st a (stepRefusal f st a)

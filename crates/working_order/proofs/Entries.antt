@@ -8,7 +8,7 @@ use lib.ListN.{length, getD, take, replicate}
 use lib.Seq.{take-at, getD-take}
 use lib.Ieee.{Float}
 use Rattle.numeric.specs.Tabulate.{tabulate, length-tabulate}
-use Rattle.working_order.specs.Order.{maxHeaters, indices, insert, insertionSort, notAbove, risingOrder}
+use Rattle.working_order.specs.Order.{maxHeaters, indices, insert, insertionSort, comesBefore, risingOrder}
 
 -- each entry is below n
 pub data Below (n : ℕ) : List ℕ → Type 0 where
@@ -56,21 +56,21 @@ indices-below n zero i h = none
 indices-below n (suc k) i h = more {x = i} (omega arith) (indices-below n k (i + 1) (omega arith))
 
 -- the laws: as many entries as heaters, each the number of one of them
-pub rising-length : (positions : List Float) (n : ℕ) → length (risingOrder positions n) ≡ n
+pub rising-length : (position : ℕ → Float) (n : ℕ) → length (risingOrder position n) ≡ n
 unfolding risingOrder
-rising-length positions n = sort-length (notAbove positions) (indices n) ∙ length-tabulate (λ (j : ℕ). j) n 0
+rising-length position n = sort-length (comesBefore position) (indices n) ∙ length-tabulate (λ (j : ℕ). j) n 0
 
-pub rising-below : (positions : List Float) (n k : ℕ) → k < n → getD (risingOrder positions n) k 0 < n
+pub rising-below : (position : ℕ → Float) (n k : ℕ) → k < n → getD (risingOrder position n) k 0 < n
 unfolding risingOrder
-rising-below positions n k h =
-    let e = rising-length positions n in
-    below-at n (insertionSort (notAbove positions) (indices n)) (sort-below (notAbove positions) n (indices n) (indices-below n n 0 (omega arith))) k (omega arith)
+rising-below position n k h =
+    let e = rising-length position n in
+    below-at n (insertionSort (comesBefore position) (indices n)) (sort-below (comesBefore position) n (indices n) (indices-below n n 0 (omega arith))) k (omega arith)
 
 -- ---- an array that holds it, with zeros past it
 
-module _ (positions : List Float) (n : ℕ) (order : List ℕ) (held : order ≡ risingOrder positions n ++ replicate (maxHeaters - n) 0) where
-  pub first-entries : take n order ≡ risingOrder positions n
-  first-entries = rw held (take-at (risingOrder positions n) (replicate (maxHeaters - n) 0) n (rising-length positions n))
+module _ (position : ℕ → Float) (n : ℕ) (order : List ℕ) (held : order ≡ risingOrder position n ++ replicate (maxHeaters - n) 0) where
+  pub first-entries : take n order ≡ risingOrder position n
+  first-entries = rw held (take-at (risingOrder position n) (replicate (maxHeaters - n) 0) n (rising-length position n))
 
   pub entry : (k : ℕ) → k < n → getD order k 0 < n
-  entry k h = rw (← first-entries, getD-take n order k 0 h) at (rising-below positions n k h)
+  entry k h = rw (← first-entries, getD-take n order k 0 h) at (rising-below position n k h)

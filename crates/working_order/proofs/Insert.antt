@@ -8,11 +8,7 @@ use native.Mathlib.Nat.{le-refl}
 use native.Mathlib.Omega.{arith}
 use lib.ListN.{length, getD, take, drop, set, length-set, take-append-drop}
 use lib.Seq.{slice, slice-empty, slice-cons, length-take-le, take-suc-set, take-set-lt, drop-set-lt, drop-append-le, set-split, getD-set-other}
-use Rattle.working_order.specs.Order.{maxHeaters, insert}
-
--- each entry from place i on is the number of one of n heaters
-abbrev pub NumbersFrom : ℕ → ℕ → List ℕ → Type 0
-NumbersFrom i n order = (k : ℕ) → i ≤ k → k < n → getD order k 0 < n
+use Rattle.working_order.specs.Order.{maxHeaters, insert, NumbersFrom, withHeater}
 
 -- the places from m on are those from m to below n, and those from n on
 parted : (m n : ℕ) (order : List ℕ) → m ≤ n → n ≤ length order → drop m order ≡ slice m n order ++ drop n order
@@ -21,17 +17,13 @@ parted m n order h l =
     ap (drop m) (sym (take-append-drop n order)) ∙ drop-append-le m (take n order) (drop n order) (omega arith)
 
 module _ (before : ℕ → ℕ → Bool) (n x : ℕ) where
-  -- the array with x at its place among those in the places from x + 1 to below n
-  abbrev pub withHeater : List ℕ → List ℕ
-  withHeater order = take x order ++ (insert before x (slice (x + 1) n order) ++ drop n order)
-
   -- those worked before x have moved down and stand below the place j, the others are left in those from j + 1 on, and inserting x among these gives the whole
   pub record Inserting (first : List ℕ) (j : ℕ) (order : List ℕ) : Type 0 where
     pub low : x ≤ j
     pub high : j < n
     pub long : length order ≡ maxHeaters
     pub numbers : NumbersFrom (j + 1) n order
-    pub same : take j order ++ (insert before x (slice (j + 1) n order) ++ drop n order) ≡ withHeater first
+    pub same : take j order ++ (insert before x (slice (j + 1) n order) ++ drop n order) ≡ withHeater before n x first
 
   pub inserting-start : (order : List ℕ) → x < n → length order ≡ maxHeaters → NumbersFrom (x + 1) n order → Inserting order x order
   inserting-start order h l b = record { low = le-refl x; high = h; long = l; numbers = b; same = refl }
@@ -47,9 +39,9 @@ module _ (before : ℕ → ℕ → Bool) (n x : ℕ) where
     back y m h = rw (take-set-lt n order j y (r .high)) (drop-set-lt m (take n order) j y h)
 
     -- the next one is worked before x, and moves down
-    pub inserting-turn : j + 1 < n → before x (getD order (j + 1) 0) ≡ false → Inserting first (j + 1) (set order j (getD order (j + 1) 0))
+    pub inserting-next : j + 1 < n → before x (getD order (j + 1) 0) ≡ false → Inserting first (j + 1) (set order j (getD order (j + 1) 0))
     unfolding insert
-    inserting-turn h b =
+    inserting-next h b =
         let y = getD order (j + 1) 0 in
         record {
           low = omega (arith, r .low);
@@ -65,12 +57,12 @@ module _ (before : ℕ → ℕ → Bool) (n x : ℕ) where
     stands = rw (set-split order j x (omega (arith, r .long, r .high)), ← parted (j + 1) n order (omega (arith, r .high)) (omega (arith, r .long)), add-one)
 
     -- x is worked before the next one
-    pub inserting-stop : j + 1 < n → before x (getD order (j + 1) 0) ≡ true → set order j x ≡ withHeater first
+    pub inserting-stop : j + 1 < n → before x (getD order (j + 1) 0) ≡ true → set order j x ≡ withHeater before n x first
     unfolding insert
     inserting-stop h b = stands ∙ rw (next h) (rw (next h, b) at (r .same))
 
     -- x is the last to be worked
-    pub inserting-end : n ≤ j + 1 → set order j x ≡ withHeater first
+    pub inserting-end : n ≤ j + 1 → set order j x ≡ withHeater before n x first
     unfolding insert
     inserting-end h =
         let e : j + 1 ≡ n = omega (arith, r .high) in

@@ -4,9 +4,8 @@ use mathlib.Core.Bool.{Bool}
 use mathlib.Core.List.{List, [], _∷_}
 use Prim.Native.Nat.{ℕ, _<_}
 use native.Mathlib.Omega.{arith}
-use lib.ListN.{getD}
-use lib.Ieee.{Float, nan}
-use Rattle.working_order.specs.Order.{indices, insert, insertionSort, notAbove, risingOrder}
+use lib.Ieee.{Float}
+use Rattle.working_order.specs.Order.{indices, insert, insertionSort, comesBefore, risingOrder}
 use Rattle.working_order.proofs.Entries.{Below, none, more, sort-below, indices-below}
 
 module _ (n : ℕ) (before other : ℕ → ℕ → Bool) (same : (i j : ℕ) → i < n → j < n → before i j ≡ other i j) where
@@ -22,7 +21,7 @@ module _ (n : ℕ) (before other : ℕ → ℕ → Bool) (same : (i j : ℕ) →
       insert-same x (insertionSort before xs) l (sort-below before n xs b) ∙ ap (insert other x) (sort-same xs b)
 
 -- the law: where the positions below n are the same, so is the order
-pub rising-same : (positions others : List Float) (n : ℕ) → ((i : ℕ) → i < n → getD positions i nan ≡ getD others i nan) → risingOrder positions n ≡ risingOrder others n
+pub rising-same : (position other : ℕ → Float) (n : ℕ) → ((i : ℕ) → i < n → position i ≡ other i) → risingOrder position n ≡ risingOrder other n
 unfolding risingOrder
-rising-same positions others n same =
-    sort-same n (notAbove positions) (notAbove others) (λ i j h k. rw (same i h, same j k)) (indices n) (indices-below n n 0 (omega arith))
+rising-same position other n same =
+    sort-same n (comesBefore position) (comesBefore other) (λ i j h k. rw (same i h, same j k)) (indices n) (indices-below n n 0 (omega arith))

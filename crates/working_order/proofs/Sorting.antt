@@ -8,9 +8,8 @@ use native.Mathlib.Omega.{arith}
 use lib.ListN.{length, take, drop, replicate, length-append, length-drop, length-replicate, replicate-append-replicate, take-append-drop}
 use lib.Seq.{slice, slice-empty, length-take-le, length-slice, take-at, drop-at, getD-drop, getD-take}
 use Rattle.numeric.specs.Tabulate.{tabulate, length-tabulate}
-use Rattle.working_order.specs.Order.{maxHeaters, indices, insert, insertionSort}
+use Rattle.working_order.specs.Order.{maxHeaters, indices, insert, insertionSort, NumbersFrom, withHeater}
 use Rattle.working_order.proofs.Entries.{below-at, insert-length, sort-length, sort-below, indices-below}
-use Rattle.working_order.proofs.Insert.{NumbersFrom, withHeater}
 
 zeros-left : (n : ℕ) → n ≤ maxHeaters → drop {A = ℕ} n (replicate maxHeaters 0) ≡ replicate (maxHeaters - n) 0
 zeros-left n l =
@@ -61,9 +60,9 @@ module _ (before : ℕ → ℕ → Bool) (n : ℕ) where
     parts : withHeater before n (x - 1) order ≡ (take (x - 1) order ++ placed) ++ drop n order
     parts = sym (append-assoc (take (x - 1) order) placed (drop n order))
 
-    pub sorted-turn : (after : List ℕ) → after ≡ withHeater before n (x - 1) order → Sorted (x - 1) after
+    pub sorted-next : (after : List ℕ) → after ≡ withHeater before n (x - 1) order → Sorted (x - 1) after
     unfolding tabulate insertionSort
-    sorted-turn after s =
+    sorted-next after s =
         let e : x - 1 + 1 ≡ x = omega arith in
         let d : n - (x - 1) ≡ suc (n - x) = omega (arith, r .high) in
         let first : take n after ≡ take (x - 1) order ++ placed = rw (s, parts) (take-at (take (x - 1) order ++ placed) (drop n order) n both-long) in

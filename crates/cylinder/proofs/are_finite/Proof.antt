@@ -7,7 +7,7 @@ use lib.ListN.{getD}
 use lib.Ieee.{Float, nan}
 use lib.Ieee.Scale.{finite}
 use borrow.Author.Tests.{not-true, not-false}
-use Rattle.numeric.specs.Holds.{Passed, passed-start, passed-turn, passed-fails, passed-end}
+use Rattle.numeric.specs.Holds.{Passed, passed-start, passed-next, passed-fails, passed-end}
 use Rattle.cylinder.specs.Layers.{allFinite}
 use borrow.Author.Needs.{needs}
 use Rattle.cylinder.proofs.are_finite.Statement.{statement}
@@ -49,7 +49,7 @@ loop-less c = search needs
 loop-again : tie.Need-loop-again Inv-loop μ-loop
 loop-again c =
     let test = c .before .before .before in
-    passed-turn _ _ _ (test .loop-test .taken) (sym (c .before .is-finite .ensures) ∙ not-false _ (c .if1 .left)) (test .before .loop .inv)
+    passed-next _ _ _ (test .loop-test .taken) (sym (c .before .is-finite .ensures) ∙ not-false _ (c .if1 .left)) (test .before .loop .inv)
 
 returns-2 : tie.Need-returns-2 Inv-loop μ-loop
 unfolding allFinite

@@ -1,12 +1,12 @@
--- `is_same` meets its contract (01, Job): what is left of the stored lines, against what is left of the job, decides, and each turn leaves fewer.
+-- `is_same` meets its contract (01, Job): what is left of the stored lines, against what is left of the job, decides, and each record leaves fewer.
 use mathlib.Core.Path.{sym, _∙_}
 use native.Mathlib.Omega.{arith}
 use lib.ListN.{length}
 use lib.Seq.{length-take-le}
-use Rattle.job_run.specs.Job.{turn}
-use Rattle.job_run.proofs.Moves.{turn-moves}
-use Rattle.job_run.proofs.Ends.{turnsLeft, turn-shortens}
-use Rattle.replay.proofs.Comparing.{Comparing, comparing-start, comparing-turn, comparing-differs, comparing-end, compared}
+use Rattle.job_run.specs.Job.{outcome}
+use Rattle.job_run.proofs.Moves.{record-moves}
+use Rattle.job_run.proofs.Ends.{recordsLeft, record-shortens}
+use Rattle.replay.proofs.Comparing.{Comparing, comparing-start, comparing-next, comparing-differs, comparing-end, compared}
 use borrow.Author.Needs.{needs}
 use borrow.Author.Tests.{not-true, not-false}
 use Rattle.replay.proofs.is_same.Statement.{statement}
@@ -16,7 +16,7 @@ abbrev Inv-loop : tie.InvT-loop
 Inv-loop bytes stored job₀ at₀ job at = Comparing bytes stored job at
 
 abbrev μ-loop : tie.MeasureT-loop
-μ-loop bytes stored job₀ at₀ job at = turnsLeft (length bytes) (job .ended) (job .at)
+μ-loop bytes stored job₀ at₀ job at = recordsLeft (length bytes) (job .ended) (job .at)
 
 start-requires : tie.Need-start-requires Inv-loop μ-loop
 start-requires c κs = search needs
@@ -64,7 +64,7 @@ loop-less : tie.Need-loop-less Inv-loop μ-loop
 loop-less c =
     let at = c .before .before .before .before .before .before .before .before .before .before .loop in
     rw (c .before .before .before .before .before .next-record .ensures .goes)
-    (turn-shortens (turn (c .before .before .before .before .before .before .before .before .before .before .before .before .before .before .args .bytes .now)) (length (c .before .before .before .before .before .before .before .before .before .before .before .before .before .before .args .bytes .now)) (λ j. turn-moves j (c .before .before .before .before .before .before .before .before .before .before .before .before .before .before .args .bytes .now)) (at .job) (at .inv .within) (not-true _ (c .before .before .before .before .before .before .before .before .if1 .taken)))
+    (record-shortens (outcome (c .before .before .before .before .before .before .before .before .before .before .before .before .before .before .args .bytes .now)) (length (c .before .before .before .before .before .before .before .before .before .before .before .before .before .before .args .bytes .now)) (λ j. record-moves j (c .before .before .before .before .before .before .before .before .before .before .before .before .before .before .args .bytes .now)) (at .job) (at .inv .within) (not-true _ (c .before .before .before .before .before .before .before .before .if1 .taken)))
 
 loop-again : tie.Need-loop-again Inv-loop μ-loop
 loop-again c =
@@ -72,7 +72,7 @@ loop-again c =
     let a = c .before .before .before .before .before .before .before .before .before .before .before .before .before .before .args in
     let p = c .before .before .before .before .before .next-record in
     rw (p .ensures .goes, p .ensures .counts)
-    (comparing-turn (a .bytes .now) (a .stored .now) (at .job) (at .at) (at .inv) (not-true _ (c .before .before .before .before .before .before .before .before .if1 .taken)) (compared (c .before .before .before .before .before .before .before .buffer .result) _ _ _ (p .result .length) _ (p .ensures .prints) (p .ensures .counts) (let short = p .ensures .short in let room = c .before .before .before .before .before .before .before .buffer .ensures in omega arith) (c .before .before .begins-with .ensures) ∙ not-false _ (c .before .if2 .left)))
+    (comparing-next (a .bytes .now) (a .stored .now) (at .job) (at .at) (at .inv) (not-true _ (c .before .before .before .before .before .before .before .before .if1 .taken)) (compared (c .before .before .before .before .before .before .before .buffer .result) _ _ _ (p .result .length) _ (p .ensures .prints) (p .ensures .counts) (let short = p .ensures .short in let room = c .before .before .before .before .before .before .before .buffer .ensures in omega arith) (c .before .before .begins-with .ensures) ∙ not-false _ (c .before .if2 .left)))
 
 returns-2 : tie.Need-returns-2 Inv-loop μ-loop
 returns-2 c =

@@ -1,20 +1,20 @@
--- `main` is safe and ends: the turns left fall.
+-- `main` is safe and ends: the records left fall.
 use Prim.Native.Nat.{_≤_}
 use borrow.Author.Needs.{needs}
 use Rattle.replay.proofs.main.Statement.{statement}
 use Rattle.replay.proofs.main.Tie as tie
 
 abbrev Inv-loop : tie.InvT-loop
-Inv-loop t₀ turns₀ t3 t4 t5 t turns = turns ≤ 65536
+Inv-loop t₀ records₀ t3 t4 t5 t records = records ≤ 65536
 
 abbrev μ-loop : tie.MeasureT-loop
-μ-loop t₀ turns₀ t3 t4 t5 t turns = turns
+μ-loop t₀ records₀ t3 t4 t5 t records = records
 
 loop-holds : tie.Need-loop-holds Inv-loop μ-loop
 loop-holds c = search needs
 
-sub-turns : tie.Need-sub-turns Inv-loop μ-loop
-sub-turns c = search needs
+sub-records : tie.Need-sub-records Inv-loop μ-loop
+sub-records c = search needs
 
 next-case-requires : tie.Need-next-case-requires Inv-loop μ-loop
 next-case-requires c κs = search needs
@@ -68,7 +68,7 @@ main-spec =
     Inv-loop
     μ-loop
     loop-holds
-    sub-turns
+    sub-records
     next-case-requires
     loop-less
     loop-again

@@ -2,17 +2,17 @@
 use mathlib.Core.Path.{sym, _∙_}
 use Prim.Native.Nat.{_+_, _-_}
 use native.Mathlib.Omega.{arith}
-use Rattle.working_order.specs.Order.{notAbove}
-use Rattle.working_order.proofs.Insert.{Inserting, inserting-start, inserting-turn, inserting-stop, inserting-end}
+use Rattle.working_order.specs.Order.{comesBefore, positionIn}
+use Rattle.working_order.proofs.Insert.{Inserting, inserting-start, inserting-next, inserting-stop, inserting-end}
 use borrow.Author.Needs.{needs}
 use Rattle.working_order.proofs.insert_heater.Statement.{statement}
 use Rattle.working_order.proofs.insert_heater.Tie as tie
 
 abbrev Inv-loop : tie.InvT-loop
-Inv-loop n positions x order₀ j₀ order j = Inserting (notAbove positions) n x order₀ j order
+Inv-loop n heaters x order₀ j₀ order j = Inserting (comesBefore (positionIn heaters)) n x order₀ j order
 
 abbrev μ-loop : tie.MeasureT-loop
-μ-loop n positions x order₀ j₀ order j = n - j
+μ-loop n heaters x order₀ j₀ order j = n - j
 
 loop-holds : tie.Need-loop-holds Inv-loop μ-loop
 loop-holds c = inserting-start _ _ _ _ (c .pre .0) (c .pre .2) (c .pre .3)
@@ -29,8 +29,8 @@ mul-y c = search needs
 element-copy-out-y : tie.Need-element-copy-out-y Inv-loop μ-loop
 element-copy-out-y c = search needs
 
-is-not-above-requires : tie.Need-is-not-above-requires Inv-loop μ-loop
-is-not-above-requires c κs =
+comes-before-requires : tie.Need-comes-before-requires Inv-loop μ-loop
+comes-before-requires c κs =
     let at = c .before .before .loop in
     (search needs, omega (arith, at .inv .numbers (at .j + 1) (omega arith) (omega arith)))
 
@@ -44,7 +44,7 @@ returns : tie.Need-returns Inv-loop μ-loop
 returns c =
     let test = c .before .before .before in
     let at = test .before .loop in
-    inserting-stop _ _ _ _ _ _ (omega arith) (at .inv) (test .loop-test .taken) (sym (c .before .is-not-above .ensures) ∙ c .if1 .taken)
+    inserting-stop _ _ _ _ _ _ (omega arith) (at .inv) (test .loop-test .taken) (sym (c .before .comes-before .ensures) ∙ c .if1 .taken)
 
 mul-order-2 : tie.Need-mul-order-2 Inv-loop μ-loop
 mul-order-2 c = search needs
@@ -61,7 +61,7 @@ loop-less c = search needs
 loop-again : tie.Need-loop-again Inv-loop μ-loop
 loop-again c =
     let test = c .before .before .before in
-    inserting-turn _ _ _ _ _ _ (omega arith) (test .before .loop .inv) (test .loop-test .taken) (sym (c .before .is-not-above .ensures) ∙ c .if1 .left)
+    inserting-next _ _ _ _ _ _ (omega arith) (test .before .loop .inv) (test .loop-test .taken) (sym (c .before .comes-before .ensures) ∙ c .if1 .left)
 
 mul-order-3 : tie.Need-mul-order-3 Inv-loop μ-loop
 mul-order-3 c = search needs
@@ -83,7 +83,7 @@ insert-heater-spec =
     add-y
     mul-y
     element-copy-out-y
-    is-not-above-requires
+    comes-before-requires
     mul-order
     element-write-order
     returns

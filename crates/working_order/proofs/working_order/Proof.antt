@@ -1,16 +1,16 @@
 -- `working_order` meets its contract. The loop's invariant: the places from x on hold the heaters from x on, in order.
 use native.Mathlib.Omega.{arith}
-use Rattle.working_order.specs.Order.{notAbove, risingOrder}
-use Rattle.working_order.proofs.Sorting.{Sorted, sorted-start, sorted-numbers, sorted-turn, sorted-end}
+use Rattle.working_order.specs.Order.{comesBefore, risingOrder, positionIn}
+use Rattle.working_order.proofs.Sorting.{Sorted, sorted-start, sorted-numbers, sorted-next, sorted-end}
 use borrow.Author.Needs.{needs}
 use Rattle.working_order.proofs.working_order.Statement.{statement}
 use Rattle.working_order.proofs.working_order.Tie as tie
 
 abbrev Inv-loop : tie.InvT-loop
-Inv-loop n positions order₀ x₀ order x = Sorted (notAbove positions) n x order
+Inv-loop n heaters order₀ x₀ order x = Sorted (comesBefore (positionIn heaters)) n x order
 
 abbrev μ-loop : tie.MeasureT-loop
-μ-loop n positions order₀ x₀ order x = x
+μ-loop n heaters order₀ x₀ order x = x
 
 loop-holds : tie.Need-loop-holds Inv-loop μ-loop
 loop-holds c = sorted-start _ _ (omega arith)
@@ -29,7 +29,7 @@ loop-less c = search needs
 loop-again : tie.Need-loop-again Inv-loop μ-loop
 loop-again c =
     let test = c .before .before in
-    sorted-turn _ _ (omega arith) _ _ (test .loop-test .taken) (test .before .loop .inv) _ (c .insert-heater .ensures)
+    sorted-next _ _ (omega arith) _ _ (test .loop-test .taken) (test .before .loop .inv) _ (c .insert-heater .ensures)
 
 returns : tie.Need-returns Inv-loop μ-loop
 unfolding risingOrder

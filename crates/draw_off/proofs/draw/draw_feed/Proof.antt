@@ -12,11 +12,11 @@ count-share-requires c κs = search needs
 
 returns : tie.Need-returns
 unfolding drawFeed
-returns c = λ held temps wanted. rw (c .before .before .if1 .taken, ← c .before .cold-temp .ensures) (c .count-share .ensures held)
+returns c = λ held. rw (c .before .before .if1 .taken, ← c .before .cold-temp .ensures) (c .count-share .ensures held)
 
 returns-2 : tie.Need-returns-2
 unfolding drawFeed
-returns-2 c = λ held temps wanted. rw (c .if1 .left)
+returns-2 c = λ held. rw (c .if1 .left)
 
 pub draw-feed-spec : {M : Type 1} → statement M
 draw-feed-spec = tie.close (tie.spec cold-temp-requires count-share-requires returns returns-2)

@@ -14,7 +14,7 @@ returns : tie.Need-returns
 unfolding extract untouched
 returns c =
     let layers = c .before .draw-layers .ensures in
-    (rw (← layers .0) (c .draw-feed .ensures _ _ _), layers .1)
+    (rw (← layers .0) (c .draw-feed .ensures _), layers .1)
 
 pub extract-hot-water-spec : {M : Type 1} → statement M
 extract-hot-water-spec = tie.close (tie.spec draw-layers-requires draw-feed-requires returns)

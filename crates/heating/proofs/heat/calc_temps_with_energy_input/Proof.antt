@@ -2,25 +2,25 @@
 use Prim.Native.Nat.{ℕ, _-_}
 use lib.Ieee.{Float}
 use Rattle.numeric.specs.Double.{_⊕_, _⊘_, zero-f}
-use Rattle.numeric.specs.Turns.{Rest, rest-start, rest-turn, rest-end}
-use Rattle.numeric.specs.Places.{updateTurn}
+use Rattle.numeric.specs.Iterate.{Rest, rest-start, rest-next, rest-end}
+use Rattle.numeric.specs.Places.{updateAt}
 use Rattle.cylinder.specs.Layers.{heatCapacity}
-use Rattle.heating.specs.Heat.{offer, heated}
+use Rattle.heating.specs.Heat.{offersTo, heated}
 use borrow.Author.Needs.{needs}
 use Rattle.heating.proofs.heat.calc_temps_with_energy_input.Statement.{statement}
 use Rattle.heating.proofs.heat.calc_temps_with_energy_input.Tie as tie
 
 abbrev Inv-loop : tie.InvT-loop
-Inv-loop c vol on energy layer temps₀ n k₀ temps k = Rest (updateTurn (λ (j : ℕ) (t : Float). t ⊕ (offer on energy layer j ⊕ zero-f) ⊘ heatCapacity c vol j)) n temps₀ k temps
+Inv-loop c vol layer offer temps₀ n k₀ temps k = Rest (updateAt (λ (j : ℕ) (t : Float). t ⊕ (offersTo layer offer j ⊕ zero-f) ⊘ heatCapacity c vol j)) n temps₀ k temps
 
 abbrev μ-loop : tie.MeasureT-loop
-μ-loop c vol on energy layer temps₀ n k₀ temps k = n - k
+μ-loop c vol layer offer temps₀ n k₀ temps k = n - k
 
 loop-holds : tie.Need-loop-holds Inv-loop μ-loop
 loop-holds c = rest-start _ _ _
 
-potential-energy-input-requires : tie.Need-potential-energy-input-requires Inv-loop μ-loop
-potential-energy-input-requires c κs = search needs
+offer-to-requires : tie.Need-offer-to-requires Inv-loop μ-loop
+offer-to-requires c κs = search needs
 
 mul-temps : tie.Need-mul-temps Inv-loop μ-loop
 mul-temps c = search needs
@@ -50,7 +50,7 @@ loop-again : tie.Need-loop-again Inv-loop μ-loop
 loop-again c =
     let offered = c .before .before .before in
     let test = offered .before in
-    rw (offered .potential-energy-input .ensures) (rest-turn _ _ _ _ _ (test .loop-test .taken) (test .before .loop .inv))
+    rw (offered .offer-to .ensures) (rest-next _ _ _ _ _ (test .loop-test .taken) (test .before .loop .inv))
 
 returns : tie.Need-returns Inv-loop μ-loop
 unfolding heated
@@ -63,7 +63,7 @@ calc-temps-with-energy-input-spec =
     Inv-loop
     μ-loop
     loop-holds
-    potential-energy-input-requires
+    offer-to-requires
     mul-temps
     element-copy-out-temps
     mul-temps-2

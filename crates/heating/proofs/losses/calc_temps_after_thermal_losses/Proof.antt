@@ -14,8 +14,11 @@ lose-heat-requires c κs = search needs
 
 returns : tie.Need-returns
 returns c =
-    let done = c .lose-heat .ensures in
-    (rw (c .before .before .before .adjusted-input .ensures, c .before .before .before .before .energy-surplus .ensures), done .0, done .1, done .2)
+    let over = c .before .before .before .before in
+    record {
+      adjusts = rw (c .before .before .before .adjusted-input .ensures, over .energy-surplus .ensures);
+      lost = c .lose-heat .ensures;
+    }
 
 pub calc-temps-after-thermal-losses-spec : {M : Type 1} → statement M
 calc-temps-after-thermal-losses-spec =

@@ -5,9 +5,9 @@ use native.Mathlib.Nat.{le-refl}
 use mathlib.Core.Path.{ap, _∙_}
 use lib.Ieee.{Float}
 use Rattle.numeric.specs.Double.{_⊕_}
-use Rattle.numeric.specs.Turns.{Rest, rest-start, rest-turn, rest-end}
-use Rattle.numeric.specs.InPlace.{Updating, updating-start, updating-turn, updating-end}
-use Rattle.numeric.specs.Sum2.{sumTurn, sum2-turns}
+use Rattle.numeric.specs.Iterate.{Rest, rest-start, rest-next, rest-end}
+use Rattle.numeric.specs.InPlace.{Updating, updating-start, updating-next, updating-end}
+use Rattle.numeric.specs.Sum2.{addAt, sum2-iterate}
 use Rattle.cylinder.specs.Layers.{heatCapacity}
 use Rattle.heating.specs.declared.losses.LayerAfter.{LayerAfter}
 use Rattle.heating.specs.Losses.{limitedTemp, warmed, lossAt, losses, tempsAfter, chargedAfter}
@@ -20,7 +20,7 @@ abbrev Inv-loop : tie.InvT-loop
 Inv-loop c vol p before temps₀ charged₀ n a₀ k₀ temps charged a k =
     Updating (λ (j : ℕ) (t : Float). limitedTemp p (warmed c vol p before temps₀ charged₀ j) t (lossAt c vol p before temps₀ charged₀ j) (heatCapacity c vol j)) n temps₀ k temps ×
     Updating (λ (j : ℕ) (x : Float). x ⊕ lossAt c vol p before temps₀ charged₀ j) n charged₀ k charged ×
-    Rest (sumTurn (lossAt c vol p before temps₀ charged₀)) n a₀ k a
+    Rest (addAt (lossAt c vol p before temps₀ charged₀)) n a₀ k a
 
 abbrev μ-loop : tie.MeasureT-loop
 μ-loop c vol p before temps₀ charged₀ n a₀ k₀ temps charged a k = n - k
@@ -96,9 +96,9 @@ loop-again c =
     let q = at .inv .1 .untouched (at .k) (le-refl _) in
     let lost = ap (λ (x : LayerAfter). x .lost) (after .layer-after .ensures) ∙ loss-local _ _ _ _ _ _ _ _ _ t q in
     let temp = ap (λ (x : LayerAfter). x .temp) (after .layer-after .ensures) ∙ limited-local _ _ _ _ _ _ _ _ _ t q _ (loss-local _ _ _ _ _ _ _ _ _ t q) in (
-      updating-turn _ _ _ _ _ _ l (at .inv .0) temp,
-      updating-turn _ _ _ _ _ _ l (at .inv .1) (charged-local _ _ _ _ _ _ _ _ _ t q _ lost),
-      rw (added .add-term .ensures, lost) (rest-turn _ _ _ _ _ l (at .inv .2)),
+      updating-next _ _ _ _ _ _ l (at .inv .0) temp,
+      updating-next _ _ _ _ _ _ l (at .inv .1) (charged-local _ _ _ _ _ _ _ _ _ t q _ lost),
+      rw (added .add-term .ensures, lost) (rest-next _ _ _ _ _ l (at .inv .2)),
     )
 
 total-of-requires : tie.Need-total-of-requires Inv-loop μ-loop
@@ -108,11 +108,12 @@ returns : tie.Need-returns Inv-loop μ-loop
 unfolding losses tempsAfter chargedAfter
 returns c =
     let at = c .before .before in
-    let l = c .before .loop-test .left in (
-      rw (sum2-turns, c .total-of .ensures, rest-end _ _ _ _ _ l (at .loop .inv .2), at .before .start .ensures),
-      updating-end _ _ _ _ _ l (at .loop .inv .0),
-      updating-end _ _ _ _ _ l (at .loop .inv .1),
-    )
+    let l = c .before .loop-test .left in
+    record {
+      loses = rw (sum2-iterate, c .total-of .ensures, rest-end _ _ _ _ _ l (at .loop .inv .2), at .before .start .ensures);
+      leaves = updating-end _ _ _ _ _ l (at .loop .inv .0);
+      charged-with = updating-end _ _ _ _ _ l (at .loop .inv .1);
+    }
 
 pub lose-heat-spec : {M : Type 1} → statement M
 lose-heat-spec =

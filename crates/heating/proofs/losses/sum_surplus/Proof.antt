@@ -3,7 +3,7 @@ use Prim.Native.Nat.{ℕ, _-_}
 use native.Mathlib.Omega.{arith}
 use lib.Ieee.{Float}
 use Rattle.numeric.specs.Double.{_⊕_}
-use Rattle.numeric.specs.Turns.{Span, span-start, span-turn, span-end}
+use Rattle.numeric.specs.Iterate.{Span, span-start, span-next, span-end}
 use Rattle.heating.specs.Losses.{warmed, lossAt, surplusAt}
 use borrow.Author.Needs.{needs}
 use Rattle.heating.proofs.losses.sum_surplus.Statement.{statement}
@@ -55,7 +55,7 @@ loop-again : tie.Need-loop-again Inv-loop μ-loop
 unfolding warmed lossAt
 loop-again c =
     let test = c .before .before .before .before .before in
-    rw (c .layer-surplus .ensures) (span-turn _ _ _ _ _ _ (test .loop-test .taken) (test .before .loop .inv))
+    rw (c .layer-surplus .ensures) (span-next _ _ _ _ _ _ (test .loop-test .taken) (test .before .loop .inv))
 
 returns : tie.Need-returns Inv-loop μ-loop
 returns c = span-end _ _ _ _ _ _ (c .loop-test .left) (c .before .loop .inv)

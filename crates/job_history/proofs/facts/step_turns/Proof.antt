@@ -40,7 +40,7 @@ draw-events-requires : tie.Need-draw-events-requires
 draw-events-requires c κs =
     let n = tank-counts (c .before .before .before .before .before .before .before .before .before .before .args .t) (c .before .before .before .before .before .before .before .before .before .before .args .t2) (sym (c .before .before .before .before .before .before .before .before .before .step-refusal .ensures) ∙ c .before .before .before .before .before .before .before .before .if1 .left) in
     let c' = c .before .before .before .before .before .before .before .cylinder-in .ensures in
-    (rw c' (n .0), rw c' (n .1), c .before .before .before .before .before .before .layer-volumes .ensures, n .3)
+    (rw c' (n .0), rw c' (n .1), n .3)
 
 no-turns-requires-2 : tie.Need-no-turns-requires-2
 no-turns-requires-2 c κs = search needs
@@ -49,21 +49,21 @@ returns-2 : tie.Need-returns-2
 returns-2 c =
     let a = c .before .before .before .before .before .before .before .before .before .before .before .before .before .before .args in
     let passed = sym (c .before .before .before .before .before .before .before .before .before .before .before .before .before .step-refusal .ensures) ∙ c .before .before .before .before .before .before .before .before .before .before .before .before .if1 .left in
-    let drawn = rw (c .before .before .before .before .before .before .before .before .before .before .before .cylinder-in .ensures, c .before .before .before .before .before .before .before .before .no-totals .ensures) at (c .before .before .before .draw-events .ensures) in
+    let drawn = rw (c .before .before .before .before .before .before .before .before .before .before .layer-volumes .ensures, c .before .before .before .before .before .before .before .before .before .before .before .cylinder-in .ensures, c .before .before .before .before .before .before .before .before .no-totals .ensures) at (c .before .before .before .draw-events .ensures) in
     none-told _ (c .no-turns2 .result) (drawn-none (a .t) (a .t2) passed _ (c .before .before .before .draw-events .result) drawn (c .before .if2 .taken)) (c .no-turns2 .ensures)
 
 tell-turns-requires : tie.Need-tell-turns-requires
 tell-turns-requires c κs =
     let n = tank-counts (c .before .before .before .before .before .before .before .before .before .before .before .before .before .before .before .before .before .before .before .args .t) (c .before .before .before .before .before .before .before .before .before .before .before .before .before .before .before .before .before .before .before .args .t2) (sym (c .before .before .before .before .before .before .before .before .before .before .before .before .before .before .before .before .before .before .step-refusal .ensures) ∙ c .before .before .before .before .before .before .before .before .before .before .before .before .before .before .before .before .before .if1 .left) in
     let c' = c .before .before .before .before .before .before .before .before .before .before .before .before .before .before .before .before .cylinder-in .ensures in
-    (rw c' (n .0), rw c' (n .1), n .2, c .before .before .before .before .before .before .before .before .before .before .before .before .before .before .before .layer-volumes .ensures)
+    (rw c' (n .0), rw c' (n .1), n .2)
 
 returns-3 : tie.Need-returns-3
 returns-3 c =
     let a = c .before .before .before .before .before .before .before .before .before .before .before .before .before .before .before .before .before .before .before .before .args in
     let passed = sym (c .before .before .before .before .before .before .before .before .before .before .before .before .before .before .before .before .before .before .before .step-refusal .ensures) ∙ c .before .before .before .before .before .before .before .before .before .before .before .before .before .before .before .before .before .before .if1 .left in
-    let drawn = rw (c .before .before .before .before .before .before .before .before .before .before .before .before .before .before .before .before .before .cylinder-in .ensures, c .before .before .before .before .before .before .before .before .before .before .before .before .before .before .no-totals .ensures) at (c .before .before .before .before .before .before .before .before .before .draw-events .ensures) in
-    let told = rw (c .before .before .before .before .before .before .before .before .before .before .before .before .before .before .before .before .before .cylinder-in .ensures) at (c .tell-turns .ensures .0) in
+    let drawn = rw (c .before .before .before .before .before .before .before .before .before .before .before .before .before .before .before .before .layer-volumes .ensures, c .before .before .before .before .before .before .before .before .before .before .before .before .before .before .before .before .before .cylinder-in .ensures, c .before .before .before .before .before .before .before .before .before .before .before .before .before .before .no-totals .ensures) at (c .before .before .before .before .before .before .before .before .before .draw-events .ensures) in
+    let told = rw (c .before .before .before .before .before .before .before .before .before .before .before .before .before .before .before .before .layer-volumes .ensures, c .before .before .before .before .before .before .before .before .before .before .before .before .before .before .before .before .before .cylinder-in .ensures) at (c .tell-turns .ensures .0) in
     (told ∙ ap turnsOf (sym (told-all (a .t) (a .t2) passed _ (c .before .before .before .before .before .before .before .before .before .draw-events .result) drawn (c .before .before .before .before .before .before .before .if2 .left))), c .tell-turns .ensures .1)
 
 pub step-turns-spec : {M : Type 1} → statement M

@@ -4,7 +4,7 @@ use mathlib.Core.Path.{_≡_}
 use Prim.Native.Nat.{ℕ, _≤_, _<_}
 use Rattle.numeric.proofs.Layer.{layer-below}
 use Rattle.mixing.specs.Limits.{maxLayers}
-use Rattle.heating.specs.declared.turn.Immersion.{Immersion}
+use Rattle.immersion_heater.specs.declared.turn.Immersion.{Immersion}
 use Rattle.tank_model.specs.declared.Heater.{Heater}
 use Rattle.step_work.specs.Lent.{immersion}
 use borrow.Author.Needs.{needs}

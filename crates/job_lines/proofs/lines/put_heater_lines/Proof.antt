@@ -3,13 +3,14 @@ use mathlib.Core.Path.{_≡_}
 use Prim.Native.Nat.{_+_, _*_, _-_, _≤_}
 use native.Mathlib.Omega.{arith}
 use Rattle.job_lines.specs.Put.{Put, put-nothing, put-then, put-length}
+use Rattle.job_lines.specs.Lengths.{heaterBytes}
 use Rattle.job_lines.specs.Lines.{joined, joined-more, orderedLine, heaterLines}
 use borrow.Author.Needs.{needs}
 use Rattle.job_lines.proofs.lines.put_heater_lines.Statement.{statement}
 use Rattle.job_lines.proofs.lines.put_heater_lines.Tie as tie
 
 abbrev Inv-loop : tie.InvT-loop
-Inv-loop buf₀ at n order lines a₀ k₀ buf a k = (k ≤ n) × (a ≤ at + 95 * k) × Put buf₀ at (joined (orderedLine order lines) k) buf a
+Inv-loop buf₀ at n order lines a₀ k₀ buf a k = (k ≤ n) × (a ≤ at + heaterBytes * k) × Put buf₀ at (joined (orderedLine order lines) k) buf a
 
 abbrev μ-loop : tie.MeasureT-loop
 μ-loop buf₀ at n order lines a₀ k₀ buf a k = n - k

@@ -1,15 +1,12 @@
 -- `lines::step_lines` meets its contract (01, Job): by the step's number; the order of the lines is the step's own.
-use mathlib.Core.Path.{_≡_, sym, ap, _∙_}
-use mathlib.Core.List.{List}
+use mathlib.Core.Path.{_≡_, sym, _∙_}
 use native.Mathlib.Omega.{arith}
-use lib.Ieee.{Float}
 use borrow.Author.Tests.{eq-eqb, ne-eqb}
 use lib.ListN.{take}
-use Rattle.working_order.specs.Order.{risingOrder}
 use Rattle.working_order.proofs.Entries.{first-entries, entry}
-use Rattle.tank_model.specs.Fixed.{placedHeaters}
+use Rattle.tank_model.specs.Fixed.{placedHeaters, fixedBy}
 use Rattle.tank_model.specs.Order.{workingOrder}
-use Rattle.step_work.proofs.TurnLoop.{order-is}
+use Rattle.tank_arrays.proofs.WorkingOrder.{order-of}
 use Rattle.storage_tank.specs.Tank.{fixedIn}
 use Rattle.job_lines.specs.Lines.{stepLines}
 use Rattle.job_lines.proofs.Ordered.{accepted-order}
@@ -30,8 +27,8 @@ returns c = rw (ne-eqb _ _ (c .before .before .before .before .before .if1 .take
 at-most-requires : tie.Need-at-most-requires
 at-most-requires c κs = search needs
 
-positions-of-requires : tie.Need-positions-of-requires
-positions-of-requires c κs = search needs
+heaters-of-requires : tie.Need-heaters-of-requires
+heaters-of-requires c κs = search needs
 
 working-order-requires : tie.Need-working-order-requires
 working-order-requires c κs = search needs
@@ -48,7 +45,8 @@ returns-2 c =
     let args = c .before .before .before .before .before .before .before .before .before .before .before .before .before .before .before .before .args in
     let t = args .s .tank in
     let n = c .before .before .before .before .before .before .before .before .at-most .result in
-    let order : take n (c .before .before .before .before .before .working-order .result) ≡ workingOrder (record { cylinder = fixedIn t .cylinder; heaters = placedHeaters n (t .fitted) }) = first-entries _ _ _ (c .before .before .before .before .before .working-order .ensures) ∙ (ap (λ (ps : List Float). risingOrder ps n) (c .before .before .before .before .before .before .before .positions-of .ensures) ∙ sym (order-is (fixedIn t .cylinder) n (t .fitted) (omega arith))) in
+    let laid = c .before .before .before .before .before .before .before .heaters-of .ensures in
+    let order : take n (c .before .before .before .before .before .working-order .result) ≡ workingOrder (fixedBy (fixedIn t .cylinder) (placedHeaters n (t .fitted))) = first-entries _ _ _ (c .before .before .before .before .before .working-order .ensures) ∙ sym (order-of (fixedIn t .cylinder) n (omega arith) (t .fitted) _ (laid .0) (laid .1)) in
     rw (eq-eqb _ _ (c .before .before .before .before .before .before .before .before .before .before .before .if1 .left), ← c .before .before .before .before .before .before .before .before .at-most .ensures .0, ← accepted-order (args .index) (args .s .report) (t .layers) (t .temps) n _ _ order) (c .before .before .accepted-lines .ensures)
 
 pub step-lines-spec : {M : Type 1} → statement M
@@ -59,7 +57,7 @@ step-lines-spec =
     same-length
     returns
     at-most-requires
-    positions-of-requires
+    heaters-of-requires
     working-order-requires
     accepted-lines-requires
     same-length-2

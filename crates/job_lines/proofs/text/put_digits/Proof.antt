@@ -6,7 +6,7 @@ use native.Mathlib.Nat.{mod-lt}
 use lib.ListN.{length, length-set}
 use lib.Seq.{sets}
 use Rattle.job_lines.specs.Text.{digits}
-use Rattle.job_lines.proofs.Digits.{digits-length, digits-turn}
+use Rattle.job_lines.proofs.Digits.{digits-length, digits-next}
 use borrow.Author.Needs.{needs}
 use Rattle.job_lines.proofs.text.put_digits.Statement.{statement}
 use Rattle.job_lines.proofs.text.put_digits.Tie as tie
@@ -49,7 +49,7 @@ loop-again c =
     let e : at .i ≡ suc (at .i - 1) = omega arith in (
       omega arith,
       rw stored (simp length-set (at .inv .1)),
-      rw (stored, c .before .before .before .digit .ensures, digits-turn (at .buf) (args .at) (args .base) (at .i - 1) (at .rest)) (rw e at (at .inv .2)),
+      rw (stored, c .before .before .before .digit .ensures, digits-next (at .buf) (args .at) (args .base) (at .i - 1) (at .rest)) (rw e at (at .inv .2)),
     )
 
 add-result : tie.Need-add-result Inv-loop μ-loop

@@ -1,8 +1,8 @@
 -- `fields::are_presence_bytes` meets its contract (01, Job). The loop's invariant: each entry passed has a presence byte.
 use Prim.Native.Nat.{_-_}
 use borrow.Author.Tests.{lt-leb, le-leb}
-use Rattle.numeric.specs.Holds.{Passed, passed-start, passed-turn, passed-fails, passed-end}
-use Rattle.job_reader.specs.Fields.{isPresenceAt}
+use Rattle.numeric.specs.Holds.{Passed, passed-start, passed-next, passed-fails, passed-end}
+use Rattle.job_records.specs.Fields.{isPresenceAt}
 use borrow.Author.Needs.{needs}
 use Rattle.job_reader.proofs.fields.are_presence_bytes.Statement.{statement}
 use Rattle.job_reader.proofs.fields.are_presence_bytes.Tie as tie
@@ -35,7 +35,7 @@ loop-less : tie.Need-loop-less Inv-loop μ-loop
 loop-less c = search needs
 
 loop-again : tie.Need-loop-again Inv-loop μ-loop
-loop-again c = passed-turn _ _ _ (c .before .before .loop-test .taken) (le-leb _ _ (c .if1 .left)) (c .before .before .before .loop .inv)
+loop-again c = passed-next _ _ _ (c .before .before .loop-test .taken) (le-leb _ _ (c .if1 .left)) (c .before .before .before .loop .inv)
 
 returns-2 : tie.Need-returns-2 Inv-loop μ-loop
 returns-2 c = passed-end _ _ _ (c .loop-test .left) (c .before .loop .inv)

@@ -1,6 +1,6 @@
 -- `fields::points_at` meets its contract (01, Job): the case of the presence byte.
 use borrow.Author.Tests.{ne-eqb}
-use Rattle.job_reader.specs.Fields.{pointsOf, pointsAt}
+use Rattle.job_records.specs.Fields.{pointsOf, pointsAt}
 use borrow.Author.Needs.{needs}
 use Rattle.job_reader.proofs.fields.points_at.Statement.{statement}
 use Rattle.job_reader.proofs.fields.points_at.Tie as tie

@@ -4,8 +4,8 @@ use mathlib.Core.Path.{_≡_, refl}
 use Prim.Native.Nat.{_-_, _≤_}
 use native.Mathlib.Omega.{arith}
 use Rattle.tank_model.specs.Checks.{noSetting}
-use Rattle.job_reader.specs.Fields.{filled, noSettings, settingAt, settingsAt}
-use Rattle.job_reader.proofs.Filling.{filled-turn}
+use Rattle.job_records.specs.Fields.{filled, noSettings, settingAt, settingsAt}
+use Rattle.job_records.proofs.Filling.{filled-next}
 use borrow.Author.Needs.{needs}
 use Rattle.job_reader.proofs.fields.settings_at.Statement.{statement}
 use Rattle.job_reader.proofs.fields.settings_at.Tie as tie
@@ -42,7 +42,7 @@ loop-less : tie.Need-loop-less Inv-loop μ-loop
 loop-less c = search needs
 
 loop-again : tie.Need-loop-again Inv-loop μ-loop
-loop-again c = (omega arith, rw (c .points-at .ensures, c .before .before .loop .inv .1) (filled-turn (settingAt (c .before .before .before .before .args .s .now) (c .before .before .before .before .args .at)) noSetting (c .before .before .loop .k) noSettings (omega arith)))
+loop-again c = (omega arith, rw (c .points-at .ensures, c .before .before .loop .inv .1) (filled-next (settingAt (c .before .before .before .before .args .s .now) (c .before .before .before .before .args .at)) noSetting (c .before .before .loop .k) noSettings (omega arith)))
 
 returns : tie.Need-returns Inv-loop μ-loop
 unfolding settingsAt

@@ -4,9 +4,9 @@ use mathlib.Core.Path.{_≡_, refl}
 use Prim.Native.Nat.{ℕ, _+_, _*_, _-_, _≤_}
 use native.Mathlib.Omega.{arith}
 use lib.Ieee.{nan}
-use Rattle.job_reader.specs.Bytes.{doubleAt}
-use Rattle.job_reader.specs.Fields.{filled, noVolumes, volumesAt}
-use Rattle.job_reader.proofs.Filling.{filled-turn}
+use Rattle.job_records.specs.Bytes.{doubleAt}
+use Rattle.job_records.specs.Fields.{filled, noVolumes, volumesAt}
+use Rattle.job_records.proofs.Filling.{filled-next}
 use borrow.Author.Needs.{needs}
 use Rattle.job_reader.proofs.fields.volumes_at.Statement.{statement}
 use Rattle.job_reader.proofs.fields.volumes_at.Tie as tie
@@ -43,7 +43,7 @@ loop-less : tie.Need-loop-less Inv-loop μ-loop
 loop-less c = search needs
 
 loop-again : tie.Need-loop-again Inv-loop μ-loop
-loop-again c = (omega arith, rw (c .f64-at .ensures, c .before .before .loop .inv .1) (filled-turn (λ (j : ℕ). doubleAt (c .before .before .before .before .args .s .now) (c .before .before .before .before .args .at + 8 * j)) nan (c .before .before .loop .i) noVolumes (omega arith)))
+loop-again c = (omega arith, rw (c .f64-at .ensures, c .before .before .loop .inv .1) (filled-next (λ (j : ℕ). doubleAt (c .before .before .before .before .args .s .now) (c .before .before .before .before .args .at + 8 * j)) nan (c .before .before .loop .i) noVolumes (omega arith)))
 
 returns : tie.Need-returns Inv-loop μ-loop
 unfolding volumesAt

@@ -1,6 +1,6 @@
 -- `read::heater_record` meets its contract (01, Job): the thermostat by the presence byte.
 use borrow.Author.Tests.{eq-eqb, ne-eqb}
-use Rattle.job_reader.specs.Records.{heaterRecordAt}
+use Rattle.job_records.specs.Records.{heaterRecordAt}
 use borrow.Author.Needs.{needs}
 use Rattle.job_reader.proofs.read.heater_record.Statement.{statement}
 use Rattle.job_reader.proofs.read.heater_record.Tie as tie

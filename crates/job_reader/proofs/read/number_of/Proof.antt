@@ -1,5 +1,5 @@
 -- `read::number_of` meets its contract (01, refusal 11): the number of each case, as the definition of its values gives it.
-use Rattle.job_reader.specs.Values.{valuesOf}
+use Rattle.job_records.specs.Values.{valuesOf}
 use borrow.Author.Needs.{needs}
 use Rattle.job_reader.proofs.read.number_of.Statement.{statement}
 use Rattle.job_reader.proofs.read.number_of.Tie as tie

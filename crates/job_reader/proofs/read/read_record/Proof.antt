@@ -3,8 +3,8 @@ use lib.ListN.{length}
 use Prim.Native.Nat.{_+_}
 use native.Mathlib.Omega.{arith}
 use borrow.Author.Tests.{lt-leb, le-leb}
-use Rattle.job_reader.specs.Records.{readRecord}
-use Rattle.job_reader.proofs.ValueLaws.{record-read}
+use Rattle.job_records.specs.Records.{readRecord}
+use Rattle.job_records.proofs.ValueLaws.{record-read}
 use borrow.Author.Needs.{needs}
 use Rattle.job_reader.proofs.read.read_record.Statement.{statement}
 use Rattle.job_reader.proofs.read.read_record.Tie as tie

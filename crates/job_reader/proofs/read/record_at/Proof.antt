@@ -1,6 +1,6 @@
 -- `read::record_at` meets its contract (01, Job): by the two bytes of the kind.
 use borrow.Author.Tests.{ne-eqb}
-use Rattle.job_reader.specs.Records.{byKind}
+use Rattle.job_records.specs.Records.{byKind}
 use borrow.Author.Needs.{needs}
 use Rattle.job_reader.proofs.read.record_at.Statement.{statement}
 use Rattle.job_reader.proofs.read.record_at.Tie as tie

@@ -2,7 +2,7 @@
 use mathlib.Core.Path.{sym, _∙_}
 use native.Mathlib.Omega.{arith}
 use borrow.Author.Tests.{eq-eqb, ne-eqb, not-true, not-false}
-use Rattle.job_reader.specs.Records.{stepAt, stepReadingAt, stepSizeAt}
+use Rattle.job_records.specs.Records.{stepAt, stepReadingAt, stepSizeAt}
 use borrow.Author.Needs.{needs}
 use Rattle.job_reader.proofs.read.step_at.Statement.{statement}
 use Rattle.job_reader.proofs.read.step_at.Tie as tie

@@ -47,14 +47,14 @@ use denote.Triple.Walked.{says, Stays, stay-none, stay-none-slice, walkOf, goes-
 use denote.Exit.{yes}
 use borrow.Table.OneValue.{part-in-at, part-out-at}
 use borrow.Within.Token.{Rest, within-token, within-end}
-use Rattle.job_reader.specs.ReadValues.{RecordRead}
+use Rattle.job_records.specs.ReadValues.{RecordRead}
 use Rattle.job_reader.specs.Reader.{NextRead}
-use Rattle.job_reader.specs.declared.Reading.{Reading}
+use Rattle.job_records.specs.declared.Reading.{Reading}
 use Rattle.job_reader.specs.declared.reader.JobReader.{JobReader}
 use Rattle.job_reader.proofs.reader.JobReader as T
 use Rattle.job_reader.proofs.reader.JobReader.Laws as T′
-use Rattle.job_reader.proofs.Reading as S
-use Rattle.job_reader.proofs.Reading.Laws as S′
+use Rattle.job_records.proofs.Reading as S
+use Rattle.job_records.proofs.Reading.Laws as S′
 use Rattle.job_reader.proofs.reader.JobReader.next as next
 use Rattle.job_reader.proofs.reader.JobReader.next.Symbol as next-def
 use Rattle.job_reader.proofs.reader.JobReader.next.Symbol.{name as #next}

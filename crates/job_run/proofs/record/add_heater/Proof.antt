@@ -1,9 +1,15 @@
--- `record::add_heater` meets its contract (01, Job): a ninth heater is 2, any other is make's to judge.
-use borrow.Author.Tests.{lt-ltb, le-ltb}
-use Rattle.job_run.specs.Job.{heaterTurn}
+-- `record::add_heater` meets its contract (01, Job): a ninth heater is check 2's to refuse, any other is make's to judge.
+use Prim.Native.Nat.{_+_}
+use native.Mathlib.Omega.{arith}
+use borrow.Author.Tests.{eq-eqb, ne-eqb}
+use Rattle.tank_arrays.proofs.FirstRefusal.{few-heaters}
+use Rattle.job_run.specs.Job.{heaterOutcome}
 use borrow.Author.Needs.{needs}
 use Rattle.job_run.proofs.record.add_heater.Statement.{statement}
 use Rattle.job_run.proofs.record.add_heater.Tie as tie
+
+heaters-check-requires : tie.Need-heaters-check-requires
+heaters-check-requires c κs = search needs
 
 refuse-requires : tie.Need-refuse-requires
 refuse-requires c κs = search needs
@@ -12,11 +18,13 @@ same-length : tie.Need-same-length
 same-length c = search needs
 
 returns : tie.Need-returns
-unfolding heaterTurn
-returns c = rw (le-ltb _ _ (c .before .before .before .before .if1 .taken)) (c .before .before .refuse .ensures)
+unfolding heaterOutcome
+returns c = rw (← c .before .before .before .before .before .heaters-check .ensures, ne-eqb _ _ (c .before .before .before .before .if1 .taken)) (c .before .before .refuse .ensures)
 
 with-heater-requires : tie.Need-with-heater-requires
-with-heater-requires c κs = search needs
+with-heater-requires c κs =
+    let l = few-heaters (c .before .before .before .before .args .j .design .heaters + 1) _ (c .before .heaters-check .ensures) (c .if1 .left) in
+    omega (arith, l)
 
 make-tank-requires : tie.Need-make-tank-requires
 make-tank-requires c κs = search needs
@@ -25,13 +33,16 @@ same-length-2 : tie.Need-same-length-2
 same-length-2 c = search needs
 
 returns-2 : tie.Need-returns-2
-unfolding heaterTurn
-returns-2 c = rw (lt-ltb _ _ (c .before .before .before .before .before .if1 .left), ← c .before .before .before .before .with-heater .ensures) (c .before .before .make-tank .ensures)
+unfolding heaterOutcome
+returns-2 c =
+    rw (← c .before .before .before .before .before .before .heaters-check .ensures, eq-eqb _ _ (c .before .before .before .before .before .if1 .left), ← c .before .before .before .before .with-heater .ensures)
+    (c .before .before .make-tank .ensures)
 
 pub add-heater-spec : {M : Type 1} → statement M
 add-heater-spec =
     tie.close
     (tie.spec
+    heaters-check-requires
     refuse-requires
     same-length
     returns

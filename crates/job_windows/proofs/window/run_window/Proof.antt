@@ -3,10 +3,10 @@ use native.Mathlib.Omega.{arith}
 use mathlib.Core.Bool.{true≢false}
 use mathlib.Core.Path.{sym, ap, _∙_}
 use lib.ListN.{length}
-use Rattle.job_reader.specs.Windows.{isReady}
-use Rattle.job_reader.proofs.ReadLaws.{both}
-use Rattle.job_run.proofs.Ends.{turnsLeft, turn-shortens}
-use Rattle.job_run.proofs.WindowLoop.{Running, goesOn, running-start, running-turn, running-cut}
+use Rattle.job_records.specs.Windows.{isReady}
+use Rattle.numeric.specs.Holds.{both}
+use Rattle.job_run.proofs.Ends.{recordsLeft, record-shortens}
+use Rattle.job_run.proofs.WindowLoop.{Running, goesOn, running-start, running-next, running-cut}
 use Rattle.job_windows.specs.Kinds.{linesOf}
 use Rattle.job_windows.proofs.Told.{lines-move, all-sent, some-left}
 use borrow.Author.Needs.{needs}
@@ -18,7 +18,7 @@ abbrev Inv-loop : tie.InvT-loop
 Inv-loop program bytes last history j₀ taken₀ j taken = Running (linesOf history bytes) (isReady bytes last) (length bytes) j₀ j taken
 
 abbrev μ-loop : tie.MeasureT-loop
-μ-loop program bytes last history j₀ taken₀ j taken = turnsLeft (length bytes) (j .ended) (j .at)
+μ-loop program bytes last history j₀ taken₀ j taken = recordsLeft (length bytes) (j .ended) (j .at)
 
 loop-holds : tie.Need-loop-holds Inv-loop μ-loop
 loop-holds c =
@@ -65,7 +65,7 @@ loop-less c =
     let a = c .before .before .before .before .before .before .before .before .before .args in
     let on = sym (c .before .before .before .before .before .goes-on .ensures) ∙ c .before .before .before .before .if1 .taken in
     rw (c .before .before .before .print-lines .ensures .goes)
-    (turn-shortens (linesOf (a .history) (a .bytes .now)) (length (a .bytes .now)) (lines-move (a .history) (a .bytes .now)) (at .j) (at .inv .within) (not-true _ (both _ _ on .0)))
+    (record-shortens (linesOf (a .history) (a .bytes .now)) (length (a .bytes .now)) (lines-move (a .history) (a .bytes .now)) (at .j) (at .inv .within) (not-true _ (both _ _ on .0)))
 
 loop-again : tie.Need-loop-again Inv-loop μ-loop
 loop-again c =
@@ -77,7 +77,7 @@ loop-again c =
     let within = p .ensures .within in
     let short = p .ensures .short in
     rw (p .ensures .goes)
-    (running-turn _ _ (length (a .bytes .now)) (lines-move (a .history) (a .bytes .now)) _ (at .j) (at .taken) (at .inv) on (p .result .taken) sent (omega arith))
+    (running-next _ _ (length (a .bytes .now)) (lines-move (a .history) (a .bytes .now)) _ (at .j) (at .taken) (at .inv) on (p .result .taken) sent (omega arith))
 
 returns-2 : tie.Need-returns-2 Inv-loop μ-loop
 returns-2 c =

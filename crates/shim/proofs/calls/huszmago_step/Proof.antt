@@ -2,9 +2,9 @@
 use mathlib.Core.Path.{refl, ap}
 use Rattle.storage_tank.specs.declared.Stepped.{Stepped}
 use Rattle.storage_tank.proofs.Answers.{step-refuses, step-accepts}
-use Rattle.shim.specs.Tanks.{tankIn}
-use Rattle.shim.specs.Reports.{reportIn}
-use Rattle.shim.specs.Steps.{stepIn}
+use Rattle.lent_tank.specs.Tanks.{tankIn}
+use Rattle.lent_tank.specs.Reports.{reportIn}
+use Rattle.lent_tank.specs.Steps.{stepIn}
 use Rattle.shim.proofs.Kept.{refused-left, worked-left}
 use borrow.Author.Needs.{needs}
 use Rattle.shim.proofs.calls.huszmago_step.Statement.{statement}

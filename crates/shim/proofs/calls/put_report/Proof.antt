@@ -1,6 +1,6 @@
 -- `calls::put_report` meets its contract (01, The four calls): the report's flags are written as bytes.
 use mathlib.Core.Path.{ap, _∙_}
-use Rattle.shim.specs.Flags.{bytesOf}
+use Rattle.lent_tank.specs.Flags.{bytesOf}
 use borrow.Author.Needs.{needs}
 use Rattle.shim.proofs.calls.put_report.Statement.{statement}
 use Rattle.shim.proofs.calls.put_report.Tie as tie

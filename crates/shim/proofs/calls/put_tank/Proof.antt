@@ -1,6 +1,6 @@
 -- `calls::put_tank` meets its contract (01, The four calls): the tank's flags, and whether its thermostats have positions, are written as bytes.
 use mathlib.Core.Path.{ap, _∙_}
-use Rattle.shim.specs.Flags.{bytesOf}
+use Rattle.lent_tank.specs.Flags.{bytesOf}
 use borrow.Author.Needs.{needs}
 use Rattle.shim.proofs.calls.put_tank.Statement.{statement}
 use Rattle.shim.proofs.calls.put_tank.Tie as tie

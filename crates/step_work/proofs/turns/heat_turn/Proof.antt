@@ -1,5 +1,7 @@
 -- `heat_turn` meets its contract (01, Turn): the turn of its heater, and what it leaves of flags, losses and lines.
+use mathlib.Core.Path.{ap}
 use native.Mathlib.Omega.{arith}
+use Rattle.immersion_heater.specs.declared.turn.TurnAnswer.{TurnAnswer}
 use Rattle.numeric.proofs.Layer.{layer-below}
 use borrow.Author.Needs.{needs}
 use Rattle.step_work.proofs.turns.heat_turn.Statement.{statement}
@@ -25,7 +27,7 @@ write-line-requires c κs = (search needs, search needs)
 returns : tie.Need-returns
 returns c =
     let w = rw (c .before .before .before .before .before .before .before .before .before .before .immersion-of .ensures) at (c .before .before .before .before .before .before .turn .ensures) in
-    (record { answers = rw (c .before .before .write-line .ensures .0, w .answers); leaves = w .leaves; charges = w .charges }, c .before .before .write-line .ensures .1)
+    (record { number = ap (λ (z : TurnAnswer). z .number) (w .answers); leaves = rw (c .before .before .write-line .ensures .0, w .answers, w .leaves, w .charges) }, c .before .before .write-line .ensures .1)
 
 pub heat-turn-spec : {M : Type 1} → statement M
 heat-turn-spec =

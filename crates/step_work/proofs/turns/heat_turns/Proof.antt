@@ -1,34 +1,30 @@
 -- `heat_turns` meets its contract (01, Step): the turns in the order of work.
-use mathlib.Core.Path.{sym, ap, _∙_}
-use mathlib.Core.List.{List}
+use mathlib.Core.Path.{sym, _∙_}
 use native.Mathlib.Omega.{arith}
-use lib.Ieee.{Float}
-use Rattle.working_order.specs.Order.{risingOrder}
 use Rattle.working_order.proofs.Entries.{first-entries, entry}
 use Rattle.tank_arrays.specs.Arrays.{fittedIn, settingsIn}
-use Rattle.step_work.specs.Lent.{noTurns, heatedIn}
-use Rattle.step_work.proofs.TurnLoop.{order-is, in-order}
+use Rattle.tank_arrays.proofs.WorkingOrder.{order-lent}
+use Rattle.step_work.specs.Lent.{pointsIn}
+use Rattle.step_work.proofs.TurnLoop.{in-order, same-order}
 use borrow.Author.Needs.{needs}
 use Rattle.step_work.proofs.turns.heat_turns.Statement.{statement}
 use Rattle.step_work.proofs.turns.heat_turns.Tie as tie
-
-positions-in-requires : tie.Need-positions-in-requires
-positions-in-requires c κs = search needs
 
 working-order-requires : tie.Need-working-order-requires
 working-order-requires c κs = search needs
 
 heat-in-order-requires : tie.Need-heat-in-order-requires
-heat-in-order-requires c κs = (omega arith, omega arith, omega arith, c .before .before .before .before .before .before .before .before .before .before .pre .3, search needs, λ k l. entry _ _ _ (c .before .before .before .before .before .before .before .working-order .ensures) k l, c .before .before .before .before .before .before .before .before .before .before .pre .4)
+heat-in-order-requires c κs = (c .before .before .before .before .before .before .before .before .pre .0, record { places = search needs; below = λ k l. entry _ _ _ (c .before .before .before .before .before .before .before .working-order .ensures) k l }, c .before .before .before .before .before .before .before .before .pre .1)
 
 returns : tie.Need-returns
 returns c =
-    let a = c .before .before .before .before .before .before .before .before .before .before .before .args in
+    let a = c .before .before .before .before .before .before .before .before .before .args in
     let fitted = fittedIn (a .heaters .now) (a .thermostats .now) in
-    let order = order-is (a .c) (a .n) fitted (omega arith) ∙ sym (ap (λ (ps : List Float). risingOrder ps (a .n)) (c .before .before .before .before .before .before .before .before .before .before .positions-in .ensures (a .thermostats .now))) ∙ sym (first-entries _ _ _ (c .before .before .before .before .before .before .before .before .working-order .ensures)) in
-    (λ t average. in-order (a .c) (a .n) fitted (settingsIn (a .present .now) (a .points .now)) t average _ _ _ _ (heatedIn noTurns (a .on .now) (a .figures .now) (a .flags .now) (a .rounds .now)) _ order (c .heat-in-order .ensures .0 t average), c .heat-in-order .ensures .1)
+    let p = c .before .before .before .before .before .before .before .before .before .pre .0 .few-heaters in
+    let order = same-order (a .c) (a .vol .now) (a .n) (a .heaters .now) (a .thermostats .now) ∙ order-lent (a .c) (a .n) (omega arith) (a .heaters .now) (a .thermostats .now) ∙ sym (first-entries _ _ _ (c .before .before .before .before .before .before .before .before .working-order .ensures)) in
+    (in-order (a .c) (a .vol .now) (a .n) fitted (pointsIn (settingsIn (a .present .now) (a .points .now))) _ _ _ _ order (c .heat-in-order .ensures .0), c .heat-in-order .ensures .1)
 
 pub heat-turns-spec : {M : Type 1} → statement M
 heat-turns-spec =
     tie.close
-    (tie.spec positions-in-requires working-order-requires heat-in-order-requires returns)
+    (tie.spec working-order-requires heat-in-order-requires returns)

@@ -46,7 +46,7 @@ draw-events-requires c κs =
     let a = stepWith (i .feed) (i .events) (i .volumes .now) (i .entries) (i .present .now) (i .points .now) in
     let passed = sym (c .before .before .before .before .before .lent-refusal .ensures (i .on .now)) ∙ c .before .before .before .before .if1 .left in
     let n = step-counts (i .c) (i .n) (fittedIn (i .heaters .now) (i .thermostats .now)) st a passed in
-    (n .0, n .1, c .before .before .before .layer-volumes .ensures, n .3)
+    (n .0, n .1, n .3)
 
 refused-requires-2 : tie.Need-refused-requires-2
 refused-requires-2 c κs = search needs
@@ -59,7 +59,7 @@ returns-2 c =
     let a = stepWith (i .feed) (i .events) (i .volumes .now) (i .entries) (i .present .now) (i .points .now) in
     let passed = sym (c .before .before .before .before .before .before .before .before .before .lent-refusal .ensures (i .on .now)) ∙ c .before .before .before .before .before .before .before .before .if1 .left in
     let d = c .before .before .before .draw-events .result in
-    let drawn = rw (c .before .before .before .before .no-totals .ensures) at (c .before .before .before .draw-events .ensures) in
+    let drawn = rw (c .before .before .before .before .no-totals .ensures, c .before .before .before .before .before .before .before .layer-volumes .ensures) at (c .before .before .before .draw-events .ensures) in
     (refused-worked f st a _ _ _ _ _ (c .refused2 .ensures) (c .before .if2 .taken) (drawn-refused f st a passed _ d drawn (c .before .if2 .taken)), λ z. absurd (c .before .if2 .taken (sym (c .refused2 .ensures) ∙ z)))
 
 average-of-requires : tie.Need-average-of-requires
@@ -80,7 +80,7 @@ heat-turns-requires c κs =
     let a = stepWith (i .feed) (i .events) (i .volumes .now) (i .entries) (i .present .now) (i .points .now) in
     let passed = sym (c .before .before .before .before .before .before .before .before .before .before .before .before .before .before .before .before .before .before .lent-refusal .ensures (i .on .now)) ∙ c .before .before .before .before .before .before .before .before .before .before .before .before .before .before .before .before .before .if1 .left in
     let n = step-counts (i .c) (i .n) (fittedIn (i .heaters .now) (i .thermostats .now)) st a passed in
-    (n .0, n .1, n .2, c .before .before .before .before .before .before .before .before .before .before .before .before .before .before .before .before .layer-volumes .ensures, zeros-hold _ _ _ (c .before .before .before .before .before .before .before .before .before .before .before .before .before .before .before .before .before .before .before .before .pre))
+    (record { some-layers = n .0; few-layers = n .1; few-heaters = n .2 }, zeros-hold _ _ _ (c .before .before .before .before .before .before .before .before .before .before .before .before .before .before .before .before .before .before .before .before .pre))
 
 refused-requires-3 : tie.Need-refused-requires-3
 refused-requires-3 c κs = search needs
@@ -93,9 +93,9 @@ returns-3 c =
     let a = stepWith (i .feed) (i .events) (i .volumes .now) (i .entries) (i .present .now) (i .points .now) in
     let passed = sym (c .before .before .before .before .before .before .before .before .before .before .before .before .before .before .before .before .before .before .before .before .before .before .lent-refusal .ensures (i .on .now)) ∙ c .before .before .before .before .before .before .before .before .before .before .before .before .before .before .before .before .before .before .before .before .before .if1 .left in
     let d = c .before .before .before .before .before .before .before .before .before .before .before .before .before .before .before .before .draw-events .result in
-    let drawn = rw (c .before .before .before .before .before .before .before .before .before .before .before .before .before .before .before .before .before .no-totals .ensures) at (c .before .before .before .before .before .before .before .before .before .before .before .before .before .before .before .before .draw-events .ensures) in
-    let zeros = zeros-unheated (i .on .now) (i .figures .now) (i .flags .now) (i .rounds .now) (c .before .before .before .before .before .before .before .before .before .before .before .before .before .before .before .before .before .before .before .before .before .before .before .before .pre) in
-    (refused-worked f st a _ _ _ _ _ (c .refused3 .ensures) (c .before .if3 .taken) (heated-refused f st a passed _ d drawn (c .before .before .before .before .before .before .before .before .before .before .before .before .before .before .if2 .left) _ (c .before .before .before .before .before .before .before .before .before .before .before .average-of .ensures) _ _ _ (λ s x. start-with _ _ _ _ s x _ _ _ _ _ zeros ∙ c .before .before .before .heat-turns .ensures .0 s x) (c .before .if3 .taken)), λ z. absurd (c .before .if3 .taken (sym (c .refused3 .ensures) ∙ z)))
+    let drawn = rw (c .before .before .before .before .before .before .before .before .before .before .before .before .before .before .before .before .before .no-totals .ensures, c .before .before .before .before .before .before .before .before .before .before .before .before .before .before .before .before .before .before .before .before .layer-volumes .ensures) at (c .before .before .before .before .before .before .before .before .before .before .before .before .before .before .before .before .draw-events .ensures) in
+    let zeros = zeros-unheated _ (i .on .now) (i .figures .now) (i .flags .now) (i .rounds .now) (c .before .before .before .before .before .before .before .before .before .before .before .before .before .before .before .before .before .before .before .before .before .before .before .before .pre) in
+    (refused-worked f st a _ _ _ _ _ (c .refused3 .ensures) (c .before .if3 .taken) (heated-refused f st a passed _ d drawn (c .before .before .before .before .before .before .before .before .before .before .before .before .before .before .if2 .left) _ (c .before .before .before .before .before .before .before .before .before .before .before .average-of .ensures) _ _ (start-with _ _ _ _ _ _ _ _ zeros ∙ (rw (c .before .before .before .before .before .before .before .before .before .before .before .before .before .before .before .before .before .before .before .before .layer-volumes .ensures) at (c .before .before .before .heat-turns .ensures .0))) (c .before .if3 .taken)), λ z. absurd (c .before .if3 .taken (sym (c .refused3 .ensures) ∙ z)))
 
 are-both-finite-requires : tie.Need-are-both-finite-requires
 are-both-finite-requires c κs = search needs
@@ -111,9 +111,9 @@ returns-4 c =
     let a = stepWith (i .feed) (i .events) (i .volumes .now) (i .entries) (i .present .now) (i .points .now) in
     let passed = sym (c .before .before .before .before .before .before .before .before .before .before .before .before .before .before .before .before .before .before .before .before .before .before .before .before .before .lent-refusal .ensures (i .on .now)) ∙ c .before .before .before .before .before .before .before .before .before .before .before .before .before .before .before .before .before .before .before .before .before .before .before .before .if1 .left in
     let d = c .before .before .before .before .before .before .before .before .before .before .before .before .before .before .before .before .before .before .before .draw-events .result in
-    let drawn = rw (c .before .before .before .before .before .before .before .before .before .before .before .before .before .before .before .before .before .before .before .before .no-totals .ensures) at (c .before .before .before .before .before .before .before .before .before .before .before .before .before .before .before .before .before .before .before .draw-events .ensures) in
-    let zeros = zeros-unheated (i .on .now) (i .figures .now) (i .flags .now) (i .rounds .now) (c .before .before .before .before .before .before .before .before .before .before .before .before .before .before .before .before .before .before .before .before .before .before .before .before .before .before .before .pre) in
-    (refused-worked f st a _ _ _ _ _ (c .refused4 .ensures) (λ e. omega arith) (close-refused f st a passed _ d drawn (c .before .before .before .before .before .before .before .before .before .before .before .before .before .before .before .before .before .if2 .left) _ (c .before .before .before .before .before .before .before .before .before .before .before .before .before .before .average-of .ensures) _ _ _ (λ s x. start-with _ _ _ _ s x _ _ _ _ _ zeros ∙ c .before .before .before .before .before .before .heat-turns .ensures .0 s x) (c .before .before .before .before .if3 .left) (sym (c .before .before .are-both-finite .ensures) ∙ not-true _ (c .before .if4 .taken))), λ z. let e = sym (c .refused4 .ensures) ∙ z in absurd (omega arith))
+    let drawn = rw (c .before .before .before .before .before .before .before .before .before .before .before .before .before .before .before .before .before .before .before .before .no-totals .ensures, c .before .before .before .before .before .before .before .before .before .before .before .before .before .before .before .before .before .before .before .before .before .before .before .layer-volumes .ensures) at (c .before .before .before .before .before .before .before .before .before .before .before .before .before .before .before .before .before .before .before .draw-events .ensures) in
+    let zeros = zeros-unheated _ (i .on .now) (i .figures .now) (i .flags .now) (i .rounds .now) (c .before .before .before .before .before .before .before .before .before .before .before .before .before .before .before .before .before .before .before .before .before .before .before .before .before .before .before .pre) in
+    (refused-worked f st a _ _ _ _ _ (c .refused4 .ensures) (λ e. omega arith) (close-refused f st a passed _ d drawn (c .before .before .before .before .before .before .before .before .before .before .before .before .before .before .before .before .before .if2 .left) _ (c .before .before .before .before .before .before .before .before .before .before .before .before .before .before .average-of .ensures) _ _ (start-with _ _ _ _ _ _ _ _ zeros ∙ (rw (c .before .before .before .before .before .before .before .before .before .before .before .before .before .before .before .before .before .before .before .before .before .before .before .layer-volumes .ensures) at (c .before .before .before .before .before .before .heat-turns .ensures .0))) (c .before .before .before .before .if3 .left) (sym (c .before .before .are-both-finite .ensures) ∙ not-true _ (c .before .if4 .taken))), λ z. let e = sym (c .refused4 .ensures) ∙ z in absurd (omega arith))
 
 returns-5 : tie.Need-returns-5
 returns-5 c =
@@ -123,9 +123,9 @@ returns-5 c =
     let a = stepWith (i .feed) (i .events) (i .volumes .now) (i .entries) (i .present .now) (i .points .now) in
     let passed = sym (c .before .before .before .before .before .before .before .before .before .before .before .before .before .before .before .before .before .before .before .before .before .before .before .before .lent-refusal .ensures (i .on .now)) ∙ c .before .before .before .before .before .before .before .before .before .before .before .before .before .before .before .before .before .before .before .before .before .before .before .if1 .left in
     let d = c .before .before .before .before .before .before .before .before .before .before .before .before .before .before .before .before .before .before .draw-events .result in
-    let drawn = rw (c .before .before .before .before .before .before .before .before .before .before .before .before .before .before .before .before .before .before .before .no-totals .ensures) at (c .before .before .before .before .before .before .before .before .before .before .before .before .before .before .before .before .before .before .draw-events .ensures) in
-    let zeros = zeros-unheated (i .on .now) (i .figures .now) (i .flags .now) (i .rounds .now) (c .before .before .before .before .before .before .before .before .before .before .before .before .before .before .before .before .before .before .before .before .before .before .before .before .before .before .pre) in
-    (step-accepted f st a passed _ d drawn (c .before .before .before .before .before .before .before .before .before .before .before .before .before .before .before .before .if2 .left) _ (c .before .before .before .before .before .before .before .before .before .before .before .before .before .average-of .ensures) _ _ _ (λ s x. start-with _ _ _ _ s x _ _ _ _ _ zeros ∙ c .before .before .before .before .before .heat-turns .ensures .0 s x) (c .before .before .before .if3 .left) (sym (c .before .are-both-finite .ensures) ∙ not-false _ (c .if4 .left)), λ z. c .before .before .before .before .before .heat-turns .ensures .1)
+    let drawn = rw (c .before .before .before .before .before .before .before .before .before .before .before .before .before .before .before .before .before .before .before .no-totals .ensures, c .before .before .before .before .before .before .before .before .before .before .before .before .before .before .before .before .before .before .before .before .before .before .layer-volumes .ensures) at (c .before .before .before .before .before .before .before .before .before .before .before .before .before .before .before .before .before .before .draw-events .ensures) in
+    let zeros = zeros-unheated _ (i .on .now) (i .figures .now) (i .flags .now) (i .rounds .now) (c .before .before .before .before .before .before .before .before .before .before .before .before .before .before .before .before .before .before .before .before .before .before .before .before .before .before .pre) in
+    (step-accepted f st a passed _ d drawn (c .before .before .before .before .before .before .before .before .before .before .before .before .before .before .before .before .if2 .left) _ (c .before .before .before .before .before .before .before .before .before .before .before .before .before .average-of .ensures) _ _ (start-with _ _ _ _ _ _ _ _ zeros ∙ (rw (c .before .before .before .before .before .before .before .before .before .before .before .before .before .before .before .before .before .before .before .before .before .before .layer-volumes .ensures) at (c .before .before .before .before .before .heat-turns .ensures .0))) (c .before .before .before .if3 .left) (sym (c .before .are-both-finite .ensures) ∙ not-false _ (c .if4 .left)), λ z. c .before .before .before .before .before .heat-turns .ensures .1)
 
 pub work-step-spec : {M : Type 1} → statement M
 work-step-spec =

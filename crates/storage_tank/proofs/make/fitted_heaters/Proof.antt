@@ -8,11 +8,11 @@ use lib.Dec.{ltb}
 use lib.ListN.{getD, replicate}
 use Rattle.numeric.specs.Tabulate.{tabulate}
 use Rattle.numeric.specs.Copy.{copied}
-use Rattle.numeric.proofs.Filling.{tabulated-turn, tabulated-end}
+use Rattle.numeric.proofs.Filling.{tabulated-next, tabulated-end}
 use Rattle.working_order.specs.Order.{maxHeaters}
 use Rattle.tank_model.specs.declared.Heater.{Heater}
-use Rattle.tank_model.specs.Fixed.{noHeater}
-use Rattle.storage_tank.specs.Calls.{zeroHeater, cleanHeater, fittedHeaters}
+use Rattle.tank_model.specs.Fixed.{noHeater, zeroHeater}
+use Rattle.storage_tank.specs.Calls.{cleanHeater, fittedHeaters}
 use borrow.Author.Needs.{needs}
 use Rattle.storage_tank.proofs.make.fitted_heaters.Statement.{statement}
 use Rattle.storage_tank.proofs.make.fitted_heaters.Tie as tie
@@ -55,7 +55,7 @@ loop-less : tie.Need-loop-less Inv-loop μ-loop
 loop-less c = search needs
 
 loop-again : tie.Need-loop-again Inv-loop μ-loop
-loop-again c = (omega arith, rw (c .before .before .before .loop .inv .1, c .heater-at .ensures) (tabulated-turn (heaterAt (c .before .before .before .before .before .args .n) (c .before .before .before .before .before .args .t2)) maxHeaters (c .before .before .before .loop .h) noHeater (replicate maxHeaters zeroHeater) (omega arith) (omega arith)))
+loop-again c = (omega arith, rw (c .before .before .before .loop .inv .1, c .heater-at .ensures) (tabulated-next (heaterAt (c .before .before .before .before .before .args .n) (c .before .before .before .before .before .args .t2)) maxHeaters (c .before .before .before .loop .h) noHeater (replicate maxHeaters zeroHeater) (omega arith) (omega arith)))
 
 returns : tie.Need-returns Inv-loop μ-loop
 unfolding fittedHeaters

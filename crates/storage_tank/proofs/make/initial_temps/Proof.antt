@@ -6,7 +6,7 @@ use lib.ListN.{replicate}
 use lib.Ieee.{nan}
 use Rattle.numeric.specs.Double.{zero-f}
 use Rattle.numeric.specs.Copy.{copied}
-use Rattle.numeric.proofs.Filling.{take-replicate, filled-turn}
+use Rattle.numeric.proofs.Filling.{take-replicate, filled-next}
 use Rattle.mixing.specs.Limits.{maxLayers}
 use borrow.Author.Needs.{needs}
 use Rattle.storage_tank.proofs.make.initial_temps.Statement.{statement}
@@ -34,7 +34,7 @@ loop-less : tie.Need-loop-less Inv-loop μ-loop
 loop-less c = search needs
 
 loop-again : tie.Need-loop-again Inv-loop μ-loop
-loop-again c = (omega arith, rw (c .before .loop .inv .1) (filled-turn maxLayers (c .before .loop .k) _ nan (replicate maxLayers zero-f) (omega arith) (omega arith)))
+loop-again c = (omega arith, rw (c .before .loop .inv .1) (filled-next maxLayers (c .before .loop .k) _ nan (replicate maxLayers zero-f) (omega arith) (omega arith)))
 
 returns : tie.Need-returns Inv-loop μ-loop
 returns c =

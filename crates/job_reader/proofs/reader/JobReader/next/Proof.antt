@@ -44,16 +44,16 @@ use denote.Triple.Spec.{Meets, tripleOf}
 use denote.Triple.Table.{entered, cited}
 use denote.Triple.Walked.{says, Stays, stay-ref, stay-none, walkOf, goes-none, goes-ref, Walks, ends-at, walked, walk-meets}
 use denote.Exit.{yes}
-use Rattle.job_reader.specs.Records.{readRecord}
-use Rattle.job_reader.specs.ReadValues.{RecordRead}
-use Rattle.job_reader.specs.Reader.{isRefused}
-use Rattle.job_reader.specs.declared.Reading.{Reading}
+use Rattle.job_records.specs.Records.{readRecord}
+use Rattle.job_records.specs.ReadValues.{RecordRead}
+use Rattle.job_records.specs.Values.{isRefused}
+use Rattle.job_records.specs.declared.Reading.{Reading}
 use Rattle.job_reader.specs.declared.reader.JobReader.{JobReader}
 use Rattle.job_reader.proofs.reader.JobReader as T
 use Rattle.job_reader.proofs.reader.JobReader.Laws as T′
-use Rattle.job_reader.proofs.ReaderLaws.{read-places}
-use Rattle.job_reader.proofs.Reading as S
-use Rattle.job_reader.proofs.Reading.Laws as S′
+use Rattle.job_records.proofs.ReaderLaws.{read-places}
+use Rattle.job_records.proofs.Reading as S
+use Rattle.job_records.proofs.Reading.Laws as S′
 use Rattle.job_reader.proofs.read.read_record as read
 use Rattle.job_reader.proofs.read.read_record.Symbol as read-def
 use Rattle.job_reader.proofs.read.read_record.Symbol.{name as #read-record}

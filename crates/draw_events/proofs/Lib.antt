@@ -1,0 +1,5 @@
+pub mod Keeps
+pub mod KeptSums
+pub mod NoDraw
+pub mod Numbers
+pub mod Worked

@@ -1,0 +1,2 @@
+-- The laws of flags as bytes.
+pub mod Bytes

@@ -1,0 +1,2 @@
+-- What the call mix cites of an array with more places than it has layers.
+pub mod Array

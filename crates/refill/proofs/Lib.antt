@@ -1,0 +1,4 @@
+pub mod Descents
+pub mod Filled
+pub mod Refilling
+pub mod Repeating

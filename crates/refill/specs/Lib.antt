@@ -1,0 +1,4 @@
+-- The definitions of the refill.
+pub mod Refill
+pub mod Lent
+pub mod Repeats

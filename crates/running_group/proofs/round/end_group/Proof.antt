@@ -1,0 +1,21 @@
+-- `running::end_group` meets its contract (01, Mix): the group is filled, or it is one layer.
+use native.Mathlib.Omega.{arith}
+use mathlib.Core.Path.{refl}
+use borrow.Author.Needs.{needs}
+use Rattle.running_group.proofs.round.end_group.Statement.{statement}
+use Rattle.running_group.proofs.round.end_group.Tie as tie
+
+add-if1 : tie.Need-add-if1
+add-if1 c = search needs
+
+fill-group-requires : tie.Need-fill-group-requires
+fill-group-requires c κs = search needs
+
+returns : tie.Need-returns
+returns c = (λ e. absurd (omega arith), λ l. c .fill-group .ensures)
+
+returns-2 : tie.Need-returns-2
+returns-2 c = (λ e. refl, λ l. absurd (omega arith))
+
+pub end-group-spec : {M : Type 1} → statement M
+end-group-spec = tie.close (tie.spec add-if1 fill-group-requires returns returns-2)

@@ -1,0 +1,24 @@
+-- States what the shorter ways to Sum2 give (01, Arithmetic underneath): the sum by its definition, where terms are above zero and what comes out is finite.
+use Prim.Native.Nat.{ℕ}
+use mathlib.Core.Bool.{true}
+use mathlib.Core.Path.{_≡_}
+use lib.Ieee.{Float, lt, le}
+use lib.Ieee.Scale.{finite}
+use Rattle.numeric.specs.Double.{_⊕_, zero-f}
+use Rattle.numeric.specs.Iterate.{iterate}
+use Rattle.numeric.specs.Sum2.{nothing-added, accumulate, addAt}
+use Rattle.numeric.specs.declared.sum2.Accumulator.{Accumulator}
+
+-- r is the sum a with the term b, where b is above zero and at most the sum
+abbrev pub SmallerAdded : Accumulator → Float → Accumulator → Type 0
+SmallerAdded a b r =
+    (r .s ≡ a .s ⊕ b) × (lt zero-f b ≡ true → le b (a .s) ≡ true → finite (r .s) ≡ true → r ≡ accumulate a b)
+
+-- r is the sum of the one term b
+abbrev pub OneAdded : Float → Accumulator → Type 0
+OneAdded b r = (finite b ≡ true → r ≡ accumulate nothing-added b)
+
+-- r is the sum of m terms b, where b is above zero
+abbrev pub EqualAdded : Float → ℕ → Accumulator → Type 0
+EqualAdded b m r =
+    (lt zero-f b ≡ true → finite (r .s) ≡ true → (i : ℕ) → r ≡ iterate (addAt (λ (k : ℕ). b)) m i nothing-added)
