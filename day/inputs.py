@@ -61,6 +61,8 @@ def kind_of(data, name):
             data.decode("utf-8")
         except UnicodeDecodeError as error:
             raise Wrong("%s is in UTF-8 (byte %d is not)" % (neither, error.start)) from None
+    if b"\r" in data and b"\n" not in data:
+        raise Wrong("%s has lines that end in CR alone: save it with line ends of Unix or of Windows" % name)
     return "text"
 
 

@@ -8,6 +8,10 @@
 #include <stddef.h>
 #include <stdint.h>
 
+#ifdef __cplusplus
+extern "C" {
+#endif
+
 enum { LAYERS = 32, HEATERS = 8, EVENTS = 64 };
 
 /* A tank. */
@@ -71,5 +75,9 @@ static inline uint8_t demand_hot_water(tank_arrays *t, report_arrays *r, const s
     return huszmago_demand_hot_water(t->counts, t->numbers, t->temps, t->heaters, t->thermostats, t->flags, r->totals, r->figures, r->flags, r->rounds, a->feed,
                                      a->asked, a->volumes, a->present, a->points);
 }
+
+#ifdef __cplusplus
+}
+#endif
 
 #endif

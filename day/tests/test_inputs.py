@@ -82,6 +82,15 @@ class Given(Folder):
             done = at_once(command, os.path.join(self.write("given", TEXT), "below"))
             self.assertIn(b"below cannot be read: a part of its path is a file, not a folder\n", done.stderr)
 
+    def test_lines_that_end_in_cr_alone(self):
+        """One line to whoever splits at LF: the first wrong word would be named far from where it is."""
+        for command in ("run", "pack"):
+            done = at_once(command, self.write("given", TEXT.replace("\n", "\r").encode()))
+            said = "lines that end in CR alone: save it with line ends of Unix or of Windows"
+            self.assertEqual(done.returncode, 2)
+            self.assertIn(said, done.stderr.decode())
+        self.assertEqual(at_once("pack", self.write("given", TEXT.replace("\n", "\r\n").encode())).stdout, JOB)
+
     def test_no_permission(self):
         path = self.write("given", TEXT)
         with mock.patch("builtins.open", side_effect=PermissionError(13, "Permission denied", path)):
