@@ -233,8 +233,8 @@ class Interrupted(Sample):
 
 
 class HowFar(Sample):
-    # mixing 41, job beside history 24, long_job 24.
-    WORDS = re.compile(rb"building: crate 2 of 5, mixing; about [6-9]0 s left")
+    # mixing 2, job beside history 16, long_job 13.
+    WORDS = re.compile(rb"building: crate 2 of 5, mixing; about [2-5]0 s left")
 
     def test_a_line_now_and_then_and_one_line_at_a_terminal(self):
         self.rt(before="while [ ! -f go ]; do sleep 0.05; done")
@@ -256,6 +256,12 @@ class HowFar(Sample):
 
 
 class Estimates(unittest.TestCase):
+    def setUp(self):
+        costs = {"mixing": 41, "job_history": 52, "heating": 38, "cylinder": 6}
+        patched = mock.patch.dict(build.COSTS, costs)
+        patched.start()
+        self.addCleanup(patched.stop)
+
     def estimate(self, plan, at_once=2):
         with mock.patch("time.monotonic", return_value=0.0):
             return build.Estimate(plan, at_once)
