@@ -1,5 +1,5 @@
 -- Proves that the events of a step leave the places past the layers as they were (01, Draw; Refill), and keep the number of places.
-use Prim.Native.Nat.{ℕ, zero, suc, _<_}
+use Prim.Native.Nat.{ℕ, _<_}
 use native.Mathlib.Omega.{arith}
 use mathlib.Core.Bool.{Bool, true, false}
 use mathlib.Core.List.{List, [], _∷_}
@@ -12,7 +12,7 @@ use Rattle.draw_off.specs.declared.cold.Feed.{Feed}
 use Rattle.draw_events.specs.declared.Totals.{Totals}
 use Rattle.draw_off.specs.Draw.{extract}
 use Rattle.refill.specs.Refill.{Refill, refillLayer, refill}
-use Rattle.draw_events.specs.Event.{eventMixing, mixedTemps, eventOf, tempsAfterEvent, totalsAfterEvent, eventNumber, drawAll}
+use Rattle.draw_events.specs.Event.{eventMixing, mixedTemps, eventOf, tempsAfterEvent}
 use Rattle.refill.proofs.Descents.{lacksNone, refill-descends}
 
 module _ (n : ℕ) (vol : List Float) (feed : Feed) (before held : List Float) where
@@ -43,12 +43,3 @@ event-keeps c vol feed wanted temps t =
     let held = extract c vol feed temps wanted (t .weighted) (t .drawn) .held in
     let filled = refill (c .layers) vol feed temps held in
     keeps-trans (c .layers) temps (filled .temps) _ (refill-keeps-temps (c .layers) vol feed temps held) (mixing-keeps (filled .mixes) (c .layers) vol (filled .temps))
-
-pub events-keep : (c : Cylinder) (vol : List Float) (feed : Feed) (vs : List Float) (n : ℕ) (temps : List Float) (t : Totals)
-    → Keeps (c .layers) temps (drawAll c vol feed vs n temps t .end .temps)
-unfolding drawAll
-events-keep c vol feed [] n temps t = keeps-self (c .layers) temps
-events-keep c vol feed (v ∷ vs) (suc n) temps t = keeps-self (c .layers) temps
-events-keep c vol feed (v ∷ vs) zero temps t =
-    let e = eventOf c vol feed v temps t in
-    keeps-trans (c .layers) temps (tempsAfterEvent e) _ (event-keeps c vol feed v temps t) (events-keep c vol feed vs (eventNumber c e t) (tempsAfterEvent e) (totalsAfterEvent c e t))

@@ -1,5 +1,5 @@
--- States how many bytes the lines of one record take at most (01, Job), from how many layers and heaters there can be. A number takes 21 bytes with its space, a
--- double 17; a letter and a line's end take 1.
+-- States how many bytes the lines of one record take at most (01, Job), from how many layers and heaters there can be.
+-- A number takes 21 bytes with its space, a double 17; a letter and a line's end take 1.
 use Prim.Native.Nat.{ℕ, _+_, _*_}
 use Rattle.mixing.specs.Limits.{maxLayers}
 use Rattle.working_order.specs.Order.{maxHeaters}

@@ -4,7 +4,7 @@ use native.Mathlib.Omega.{arith}
 use mathlib.Core.Bool.{Bool, true, false, cond, not, _&&_}
 use mathlib.Core.List.{List}
 use mathlib.Core.Logic.{_⊎_, inl, inr}
-use mathlib.Core.Path.{_≡_, refl, sym}
+use mathlib.Core.Path.{_≡_, refl}
 use borrow.Author.Tests.{leb-true, eqb-true, not-true, le-leb, eq-eqb}
 use lib.Dec.{leb, eqb}
 use lib.ListN.{length}

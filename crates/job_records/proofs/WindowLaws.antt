@@ -6,14 +6,12 @@ use mathlib.Core.List.{List}
 use mathlib.Core.Logic.{_⊎_, inl, inr}
 use mathlib.Core.Path.{_≡_, refl, sym, ap, _∙_}
 use lib.ListN.{length}
-use Rattle.numeric.specs.Double.{dbl}
 use Rattle.numeric.specs.Tabulate.{tabulate-same}
-use Rattle.working_order.specs.Order.{maxHeaters}
 use Rattle.job_records.specs.declared.Reading.{Reading}
 use Rattle.job_records.specs.Bytes.{byteAt, u16At, u32At, u64At, doubleAt}
 use Rattle.job_records.specs.Fields.{volumesAt, stepVolumesAt, pointsAt, settingAt, settingsAt}
 use Rattle.job_records.specs.Values.{isRefused}
-use Rattle.job_records.specs.Records.{plainReading, refusedAt, tankFieldsAt, tankRecordAt, heaterFieldsAt, heaterRecordAt, eventsAt, entriesAt, stepSizeAt, stepReadingAt, readRecord}
+use Rattle.job_records.specs.Records.{refusedAt, tankFieldsAt, heaterRecordAt, eventsAt, entriesAt, stepSizeAt, stepReadingAt, readRecord}
 use Rattle.job_records.specs.WellFormed.{Stands, WellFormed, tank-record, heater-record, step-record}
 use Rattle.job_records.specs.Windows.{Window, AreBytes, maxRecord, movedTo}
 use Rattle.job_records.proofs.ReadLaws.{read-well-formed, read-either, well-formed-moves}

@@ -17,7 +17,7 @@ use Rattle.job_records.specs.declared.Record.{Record}
 use Rattle.job_records.specs.declared.Record.the-variants.{Tank, Heater as HeaterCase, Step as StepCase, Refused}
 use Rattle.job_records.specs.declared.Reading.{Reading}
 use Rattle.job_records.specs.WellFormed.{WellFormed}
-use Rattle.job_records.specs.Records.{refusedAt, readRecord}
+use Rattle.job_records.specs.Records.{refusedAt}
 use Rattle.job_records.specs.Windows.{Window, AreBytes, maxRecord, movedTo}
 use Rattle.job_records.proofs.ReadLaws.{read-either, well-formed-moves}
 use Rattle.job_records.proofs.WindowLaws.{window-reads}

@@ -11,7 +11,7 @@ use lib.ListN.{length}
 use Rattle.job_records.specs.Windows.{Window, AreBytes, maxRecord, isReady}
 use Rattle.numeric.specs.Holds.{both}
 use Rattle.job_run.specs.declared.Job.{Job}
-use Rattle.job_run.specs.Job.{Outcome, startJob, offsetOf, followed, outcome, runAll, jobText}
+use Rattle.job_run.specs.Job.{Outcome, offsetOf, followed, outcome, runAll, jobText}
 use Rattle.job_run.specs.Windows.{inWhole, outcomeInWhole, movedUp, runReady, windowRecords, windowRun, Windowed, begun, another}
 use Rattle.job_run.proofs.Moves.{Moves, record-moves}
 use Rattle.job_run.proofs.Ends.{Within, recordsLeft, record-within, record-before, record-less}

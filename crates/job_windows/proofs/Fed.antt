@@ -13,7 +13,7 @@ use Rattle.job_records.specs.Bytes.{byteAt}
 use Rattle.job_records.specs.Windows.{Window}
 use Rattle.job_run.specs.declared.Job.{Job}
 use Rattle.job_run.specs.Job.{Outcome}
-use Rattle.job_run.specs.Windows.{movedUp, windowRecords, Windowed, another}
+use Rattle.job_run.specs.Windows.{windowRecords, Windowed, another}
 use Rattle.job_windows.specs.declared.input.Next.{Next}
 use Rattle.job_windows.specs.Kinds.{maxWindow}
 use Rattle.job_windows.specs.Input.{Taken, Fed}

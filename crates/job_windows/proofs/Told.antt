@@ -8,7 +8,7 @@ use borrow.Author.Tests.{ltb-true, ltb-false}
 use lib.ListN.{length}
 use Rattle.job_run.specs.declared.Job.{Job}
 use Rattle.job_run.specs.declared.Ran.{Ran}
-use Rattle.job_run.specs.Job.{Outcome, outcome}
+use Rattle.job_run.specs.Job.{Outcome}
 use Rattle.job_run.specs.Handed.{Sends}
 use Rattle.job_run.proofs.Moves.{Moves, record-moves}
 use Rattle.job_history.proofs.HistoryMoves.{history-moves}

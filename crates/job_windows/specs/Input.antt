@@ -1,7 +1,7 @@
 -- States what becomes of a window of standard input (01, Job), whatever was read into it: the bytes that it held stay its first, its records are run, and the
 -- rest of it begins the next window.
 use Prim.Native.Nat.{ℕ, _+_, _*_, _-_, _≤_}
-use mathlib.Core.Bool.{Bool, true, false}
+use mathlib.Core.Bool.{true, false}
 use mathlib.Core.List.{List}
 use mathlib.Core.Path.{_≡_}
 use lib.Dec.{ltb}

@@ -2,7 +2,7 @@
 ghost use mathlib.Core.Path.{_≡_};
 ghost use Prim.Native.Nat.{_+_, _≤_};
 ghost use lib.ListN.{length, take};
-ghost use Rattle.job_windows.specs.Kinds.{linesOf, maxWindow};
+ghost use Rattle.job_windows.specs.Kinds.{linesOf};
 ghost use Rattle.job_windows.specs.Input.{Open, WindowTaken};
 use crate::window::MAX_WINDOW;
 use job_run::Job;

@@ -28,7 +28,8 @@ module _ {S : Type 0} (stop : ℕ → S → Bool) (f : ℕ → S → S) where
   step zero s h = absurd (omega arith)
   step (suc i) s h = rw sub-one
 
-  pub descent-next : (n : ℕ) (s₀ : S) (i : ℕ) (s : S) → 0 < i → stop (i - 1) s ≡ false → Descent n s₀ i s → Descent n s₀ (i - 1) (f (i - 1) s)
+  pub descent-next : (n : ℕ) (s₀ : S) (i : ℕ) (s : S) → 0 < i → stop (i - 1) s ≡ false → Descent n s₀ i s
+      → Descent n s₀ (i - 1) (f (i - 1) s)
   descent-next n s₀ i s h t r = (omega arith, (rw t at (sym (step i s h))) ∙ r .1)
 
   pub descent-stop : (n : ℕ) (s₀ : S) (i : ℕ) (s : S) → 0 < i → stop (i - 1) s ≡ true → Descent n s₀ i s → s ≡ descend n s₀
@@ -41,7 +42,8 @@ module _ {S : Type 0} (stop : ℕ → S → Bool) (f : ℕ → S → S) where
       rw e at (r .1)
 
   -- what each place worked keeps, the whole keeps
-  pub descend-keeps : (P : S → Type 0) (n : ℕ) → ((i : ℕ) (s : S) → i < n → P s → P (f i s)) → (i : ℕ) (s : S) → i ≤ n → P s → P (descend i s)
+  pub descend-keeps : (P : S → Type 0) (n : ℕ) → ((i : ℕ) (s : S) → i < n → P s → P (f i s))
+      → (i : ℕ) (s : S) → i ≤ n → P s → P (descend i s)
   unfolding descend
   descend-keeps P n h zero s l p = p
   descend-keeps P n h (suc i) s l p =

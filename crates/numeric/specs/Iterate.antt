@@ -49,13 +49,15 @@ module _ {S : Type 0} (f : ℕ → S → S) where
       rw e at (r .1)
 
   -- what each pass below n keeps, the whole keeps
-  pub iterate-keep : (P : S → Type 0) (n : ℕ) → ((i : ℕ) (s : S) → i < n → P s → P (f i s)) → (k i : ℕ) (s : S) → i + k ≤ n → P s → P (iterate k i s)
+  pub iterate-keep : (P : S → Type 0) (n : ℕ) → ((i : ℕ) (s : S) → i < n → P s → P (f i s))
+      → (k i : ℕ) (s : S) → i + k ≤ n → P s → P (iterate k i s)
   unfolding iterate
   iterate-keep P n h zero i s l p = p
   iterate-keep P n h (suc k) i s l p = iterate-keep P n h k (i + 1) (f i s) (omega arith) (h i s (omega arith) p)
 
   -- what holds of i and s, and after a pass of i + 1 and the next state, holds at the end
-  pub iterate-reach : (P : ℕ → S → Type 0) (n : ℕ) → ((i : ℕ) (s : S) → i < n → P i s → P (i + 1) (f i s)) → (k i : ℕ) (s : S) → i + k ≤ n → P i s
+  pub iterate-reach : (P : ℕ → S → Type 0) (n : ℕ) → ((i : ℕ) (s : S) → i < n → P i s → P (i + 1) (f i s))
+      → (k i : ℕ) (s : S) → i + k ≤ n → P i s
       → P (i + k) (iterate k i s)
   unfolding iterate
   iterate-reach P n h zero i s l p = rw add-zero p

@@ -83,7 +83,8 @@ unfolding eq ofBits
 eq-swapped nan t = absurd t
 eq-swapped (inf s) t = absurd t
 eq-swapped (fin s m e) t =
-    zero-flat s m e (flat (eqb→eq (0 * 1 * down e) (m * up e * 1) (and-l (eqb (0 * 1 * down e) (m * up e * 1)) (Bool·beq false s || eqb (0 * 1 * down e) 0) t)))
+    zero-flat s m e
+    (flat (eqb→eq (0 * 1 * down e) (m * up e * 1) (and-l (eqb (0 * 1 * down e) (m * up e * 1)) (Bool·beq false s || eqb (0 * 1 * down e) 0) t)))
   where
     flat : 0 * 1 * down e ≡ m * up e * 1 → m * up e ≡ 0
     flat h = omega arith
@@ -118,7 +119,8 @@ minus-zero c C =
 
 -- ---- products
 
-mul-fin : (s : Bool) (m : ℕ) (e : ℤ) (t : Bool) (n : ℕ) (d : ℤ) → fin s m e ⊛ fin t n d ≡ round binary64 (unlike s t) (m * up e * (n * up d)) (down e * down d)
+mul-fin : (s : Bool) (m : ℕ) (e : ℤ) (t : Bool) (n : ℕ) (d : ℤ)
+    → fin s m e ⊛ fin t n d ≡ round binary64 (unlike s t) (m * up e * (n * up d)) (down e * down d)
 unfolding mul
 mul-fin s m e t n d = refl
 
@@ -139,7 +141,8 @@ product-number (fin s m e) nan p q = absurd q
 product-number (fin s m e) (inf t) p q = absurd q
 product-number (fin s m e) (fin t n d) p q = round-number binary64 (unlike s t) (m * up e * (n * up d)) (down e * down d)
 
-pub product-zero : (x y : Float) → T (finite x && not (lt x zero-f)) → T (finite y && lt zero-f y) → T (not (lt zero-f (x ⊛ y))) → T (eq (x ⊛ y) zero-f)
+pub product-zero : (x y : Float) → T (finite x && not (lt x zero-f)) → T (finite y && lt zero-f y)
+    → T (not (lt zero-f (x ⊛ y))) → T (eq (x ⊛ y) zero-f)
 product-zero nan y p q n = absurd p
 product-zero (inf s) y p q n = absurd p
 product-zero (fin s m e) nan p q n = absurd q

@@ -15,7 +15,7 @@ use Rattle.tank_model.specs.declared.Heater.{Heater}
 use Rattle.tank_model.specs.Fixed.{Placed, immersed, Fixed, noHeater, placedHeaters}
 use Rattle.tank_model.specs.Order.{workingOrder}
 use Rattle.tank_model.specs.Run.{End, endBy, Run, first, run}
-use Rattle.tank_model.specs.Work.{Heating, Turn, turnOf, afterTurn, workTurn}
+use Rattle.tank_model.specs.Work.{Heating, turnOf, afterTurn, workTurn}
 use Rattle.tank_model.proofs.Order.{placed-at}
 use Rattle.tank_arrays.specs.Arrays.{fixedWith}
 use Rattle.step_work.specs.Lent.{immersion, fixedLent, TurnWorked}

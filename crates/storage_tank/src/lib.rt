@@ -7,8 +7,8 @@ use tank_model::Heater;
 use tank_model::HeaterLine;
 use working_order::MAX_HEATERS;
 
-// The tank: its fixed numbers, its layers' temperatures, the bottom first, its heaters as given, and their flags. A count may be any number; what is past it in an
-// array is not looked at.
+// The tank: its fixed numbers, its layers' temperatures, the bottom first, its heaters as given, and their flags.
+// A count may be any number; what is past it in an array is not looked at.
 pub struct StorageTank {
     pub layers: usize,
     pub volume: f64,

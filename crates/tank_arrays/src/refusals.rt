@@ -1,5 +1,5 @@
-// What make and a step are refused for before they work: the first of the checks 1 to 8 that does not pass, and 0 where all pass. A check more is a line more in
-// the function that goes through them.
+// What make and a step are refused for before they work: the first of the checks 1 to 8 that does not pass, and 0 where all pass.
+// A check more is a line more in the function that goes through them.
 ghost use mathlib.Core.Path.{_≡_};
 ghost use mathlib.Core.Bool.{_&&_};
 ghost use Prim.Native.Nat.{_≤_};

@@ -2,7 +2,7 @@
 use mathlib.Core.Path.{_≡_, subst}
 use mathlib.Core.List.{List, [], _++_}
 use mathlib.Core.Bool.{Bool, true, false, _&&_}
-use Prim.Native.Nat.{ℕ, zero, suc, _<_, _≤_}
+use Prim.Native.Nat.{ℕ, _<_, _≤_}
 use native.Mathlib.Omega.{arith}
 use lib.Dec.{T, leb, leb→le, lit<}
 use lib.ListN.{length}

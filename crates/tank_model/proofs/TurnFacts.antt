@@ -5,7 +5,7 @@ use mathlib.Core.List.{List}
 use mathlib.Core.Bool.{Bool, true, false, not, cond}
 use Prim.Native.Nat.{ℕ, _<_}
 use lib.Dec.{T}
-use lib.ListN.{getD, set}
+use lib.ListN.{getD}
 use lib.Ieee.{Float, nan, lt}
 use lib.Ieee.Bits.{is-true}
 use Rattle.numeric.specs.Double.{_⊖_, zero-f}

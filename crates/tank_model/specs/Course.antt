@@ -208,7 +208,8 @@ TurnPart m a fs h s u s' = TurnOf m a fs h s u × TurnLeaves s u s'
 -- the turns us, in working order, from s to the step's end, where the events ended at d with the average x
 abbrev pub Turns : TankDesign → Step → List Bool → DrawOff → Float → Heating → List Turn → End Outcome → Type 0
 Turns m a fs d x s us end =
-    InSequence (TurnPart m a fs) (λ (u : Turn) (s' : Heating). TurnDraws m u) (Closes end d x) (λ (n : ℕ). end ≡ refused n) s (workingOrder (fixedOf m)) us
+    InSequence (TurnPart m a fs) (λ (u : Turn) (s' : Heating). TurnDraws m u) (Closes end d x) (λ (n : ℕ). end ≡ refused n)
+    s (workingOrder (fixedOf m)) us
 
 -- the average and the turns of the work w, whose events ended at d
 abbrev pub ThenTurns : TankDesign → State → Step → Work → DrawOff → Type 0

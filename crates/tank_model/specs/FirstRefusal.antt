@@ -6,7 +6,7 @@ use native.Mathlib.Nat.{sub-zero, eq-or-lt-of-le}
 use mathlib.Core.Logic.{_⊎_, inl, inr, ⊎-elim}
 use mathlib.Core.Path.{_≡_, refl, _∙_}
 use mathlib.Core.List.{List, [], _∷_, _++_}
-use Rattle.numeric.specs.Tabulate.{tabulate, tabulate-same}
+use Rattle.numeric.specs.Tabulate.{tabulate}
 
 -- the first number that is not 0, and 0 where all are
 unfoldable pub firstRefusal : List ℕ → ℕ
@@ -133,7 +133,3 @@ module _ (check : ℕ → ℕ) where
   among-found n r e =
       let s : 0 + n ≡ n = omega arith in
       rw s at (found-from n 0 r (λ j l. absurd (omega arith)) e)
-
--- checks that agree at those places answer alike
-pub among-same : (check other : ℕ → ℕ) (n : ℕ) → ((j : ℕ) → j < n → check j ≡ other j) → firstAmong check n ≡ firstAmong other n
-among-same check other n same = rw (tabulate-same check other n 0 (λ j l u. same j (omega arith)))

@@ -1,4 +1,5 @@
-// What a tank is made from, what a step asks of it, and what it reports of a heater. The work of a step, and of a list of calls, is defined over these (`specs/`).
+// What a tank is made from, what a step asks of it, and what it reports of a heater.
+// The work of a step, and of a list of calls, is defined over these (`specs/`).
 // A count may be any number; what is past it in an array is not looked at.
 ghost use mathlib.Core.Path.{_≡_};
 ghost use Prim.Native.Nat.{_≤_};

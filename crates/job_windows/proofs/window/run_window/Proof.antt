@@ -9,7 +9,6 @@ use Rattle.job_run.proofs.Ends.{recordsLeft, record-shortens}
 use Rattle.job_run.proofs.WindowLoop.{Running, goesOn, running-start, running-next, running-cut}
 use Rattle.job_windows.specs.Kinds.{linesOf}
 use Rattle.job_windows.proofs.Told.{lines-move, all-sent, some-left}
-use borrow.Author.Needs.{needs}
 use borrow.Author.Tests.{not-true}
 use Rattle.job_windows.proofs.window.run_window.Statement.{statement}
 use Rattle.job_windows.proofs.window.run_window.Tie as tie
