@@ -1,6 +1,5 @@
 -- The laws of `job_history`.
-pub mod Telling
-pub mod StepTold
+pub mod TurnsTold
 pub mod DemandHistory
 pub mod HistoryMoves
 pub mod HistoryWindow

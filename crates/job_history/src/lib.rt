@@ -2,7 +2,6 @@
 pub mod facts;
 pub mod lines;
 pub mod record;
-pub mod refusal;
 
 use heating::SetPoints;
 use working_order::MAX_HEATERS;

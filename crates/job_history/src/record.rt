@@ -4,7 +4,10 @@ ghost use Rattle.job_history.specs.History.{historyStep, historyOutcome}
 use job_records::Record;
 use job_run::Job;
 use job_run::Printed;
+use tank_arrays::arrays::THREE_EACH;
+use tank_arrays::arrays::TWO_EACH;
 use tank_model::Step;
+use working_order::MAX_HEATERS;
 
 // A step's turns; the job goes on as it does when it prints its figures.
 fn tell_step(buf: &mut [u8], j: Job, next: usize, a: Step) -> Printed
@@ -13,11 +16,35 @@ fn tell_step(buf: &mut [u8], j: Job, next: usize, a: Step) -> Printed
 {
     let before = j.tank;
     let last = j.report;
-    let turns = crate::facts::step_turns(before, a);
-    let s = before.demand_hot_water(last, a);
-    let length = crate::lines::history_lines(buf, j.steps, s.number, turns);
-    let tank = s.tank;
-    let report = s.report;
+    let mut figures = [0.0; THREE_EACH];
+    let mut flags = [false; MAX_HEATERS];
+    let mut rounds = [0; MAX_HEATERS];
+    let mut course = [0.0; TWO_EACH];
+    let mut ran = [false; MAX_HEATERS];
+    let s = storage_tank::hot_water::noted_step(
+        before,
+        last,
+        a,
+        &mut figures,
+        &mut flags,
+        &mut rounds,
+        &mut course,
+        &mut ran,
+    );
+    let turns = crate::facts::turns_told(
+        before,
+        a,
+        s.turns,
+        &figures,
+        &flags,
+        &rounds,
+        &course,
+        &ran,
+    );
+    let done = s.stepped;
+    let length = crate::lines::history_lines(buf, j.steps, done.number, turns);
+    let tank = done.tank;
+    let report = done.report;
     let mut job = j;
     job.at = next;
     job.steps = j.steps + 1;

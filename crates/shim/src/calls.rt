@@ -16,6 +16,7 @@ use step_work::work::WorkAnswer;
 use storage_tank::Report;
 use storage_tank::StorageTank;
 use tank_arrays::arrays::THREE_EACH;
+use tank_arrays::arrays::TWO_EACH;
 use working_order::MAX_HEATERS;
 
 fn number_of(a: MixAnswer) -> u8
@@ -186,6 +187,8 @@ pub extern "C" fn huszmago_step(
     let mut x = [0.0; THREE_EACH];
     let mut g = [false; MAX_HEATERS];
     let mut k = [0; MAX_HEATERS];
+    let mut course = [0.0; TWO_EACH];
+    let mut ran = [false; MAX_HEATERS];
     let w = step_work::work::work_step(
         c,
         counts[1],
@@ -202,6 +205,8 @@ pub extern "C" fn huszmago_step(
         &mut x,
         &mut g,
         &mut k,
+        &mut course,
+        &mut ran,
     );
     if w.number != 0 {
         return w.number;

@@ -3,7 +3,8 @@ use mathlib.Core.Path.{_≡_, refl, sym, ap, _∙_, subst}
 use mathlib.Core.List.{List, [], _∷_}
 use mathlib.Core.Bool.{Bool, true, false, cond, _&&_}
 use Prim.Native.Nat.{ℕ, zero, suc, _-_}
-use lib.ListN.{getD, replicate}
+use native.Mathlib.Omega.{arith}
+use lib.ListN.{getD, length, replicate}
 use lib.Ieee.{Float, nan}
 use lib.Ieee.Scale.{finite}
 use Rattle.numeric.specs.Double.{dbl, _⊛_, _⊘_, zero-f}
@@ -14,17 +15,18 @@ use Rattle.draw_off.specs.declared.cold.Feed.{Feed}
 use Rattle.draw_events.specs.declared.event.EventAnswer.{EventAnswer}
 use Rattle.draw_events.specs.Lent.{drawingOf}
 use Rattle.draw_events.specs.Event.{Event, Drawing, eventOf, tempsAfterEvent, totalsAfterEvent, eventNumber, drawAll}
-use Rattle.tank_model.specs.declared.HeaterLine.{HeaterLine}
+use Rattle.working_order.specs.Order.{maxHeaters, threeEach}
 use Rattle.tank_model.specs.declared.Step.{Step}
 use Rattle.tank_model.specs.Fixed.{Fixed, State}
 use Rattle.tank_model.specs.Order.{workingOrder}
-use Rattle.tank_model.specs.Checks.{stepRefusal}
-use Rattle.tank_model.specs.Run.{End, refused, done, endBy, first, run}
-use Rattle.tank_model.specs.Work.{DrawOff, Outcome, workEvent, feedIn, wantedVolumes, events, averageOf, Heating, unheated, turns, recoverable, close, thenTurns, begin, work}
-use Rattle.tank_arrays.specs.Arrays.{ZeroLines}
+use Rattle.tank_model.specs.Checks.{pointsOf, stepRefusal}
+use Rattle.tank_model.specs.Run.{End, refused, done, endBy, Run, first, run}
+use Rattle.tank_model.specs.Work.{DrawOff, Outcome, workEvent, feedIn, wantedVolumes, events, averageOf, Heating, Turn, unheated, turns, recoverable, close, thenTurns, begin, Work, work}
+use Rattle.tank_arrays.specs.Arrays.{twoEach, ZeroLines}
 use Rattle.tank_arrays.proofs.LentArrays.{zero-lines}
+use Rattle.step_work.specs.declared.turns.TurnsAnswer.{TurnsAnswer}
 use Rattle.step_work.specs.declared.work.WorkAnswer.{WorkAnswer}
-use Rattle.step_work.specs.Lent.{heatingIn, noTurns, noTotals, TurnsWorked, StepWorked}
+use Rattle.step_work.specs.Lent.{heatingIn, noTurns, Notes, notesIn, noNotes, withTurns, TurnsEnd, turnsBy, noTotals, TurnsWorked, StepWorked}
 
 -- ---- the events in a row, as `draw_events` works them, are the run of the events
 
@@ -62,34 +64,51 @@ pub zeros-unheated : (temps : List Float) (on : List Bool) (xs : List Float) (bs
     → heatingIn temps (replicate maxLayers zero-f) on noTurns xs bs ns ≡ unheated temps on
 zeros-unheated temps on xs bs ns z = rw (z .figures-zero, z .flags-zero, z .rounds-zero, zero-lines)
 
--- ---- a step that is worked
-
--- by the number of its refusal
-pub refused-worked : (f : Fixed) (st : State) (a : Step) (w : WorkAnswer) (k : ℕ) (temps : List Float) (flags : List Bool) (lines : List HeaterLine) → w .number ≡ k → (k ≡ 0 → ⊥) → work f st a .end ≡ refused k → StepWorked f st a w temps flags lines
-refused-worked f st a w k temps flags lines e n ended = record { refuses = λ m. ended ∙ ap refused (sym e); accepts = λ z. absurd (n (sym e ∙ z)) }
-
--- what is worked from the same is worked
-pub worked-for : (f f' : Fixed) (st : State) (a a' : Step) (w : WorkAnswer) (temps : List Float) (flags : List Bool) (lines : List HeaterLine) → f ≡ f' → a ≡ a' → StepWorked f st a w temps flags lines → StepWorked f' st a' w temps flags lines
-worked-for f f' st a a' w temps flags lines d e s =
-    subst (λ (x : Fixed). StepWorked x st a' w temps flags lines) d (subst (λ (y : Step). StepWorked f st y w temps flags lines) e s)
+pub zeros-noted : notesIn (replicate threeEach zero-f) (replicate maxHeaters false) (replicate maxHeaters 0) (replicate twoEach zero-f) (replicate maxHeaters false) ≡ noNotes
+zeros-noted = rw zero-lines
 
 -- ---- the step
+
+-- what is worked from the same is worked
+pub worked-for : (f f' : Fixed) (st : State) (a a' : Step) (w : WorkAnswer) (temps : List Float) (flags : List Bool) (x x' : Notes) → f ≡ f' → a ≡ a' → StepWorked f st a w temps flags x x' → StepWorked f' st a' w temps flags x x'
+worked-for f f' st a a' w temps flags x x' d e s =
+    subst (λ (y : Fixed). StepWorked y st a' w temps flags x x') d (subst (λ (y : Step). StepWorked f st y w temps flags x x') e s)
 
 module _ (f : Fixed) (st : State) (a : Step) where
   abbrev c : Cylinder
   c = f .cylinder
 
-  pub step-refused : (k : ℕ) → k ≡ stepRefusal f st a → (k ≡ 0 → ⊥) → work f st a .end ≡ refused k
+  -- a step's turns, and where it ended
+  abbrev seen : Work → Run Turn Outcome
+  seen w = record { parts = w .turns; end = w .end }
+
+  -- a refused step, by its number and by the turns that it had
+  module _ (w : WorkAnswer) (k : ℕ) (temps : List Float) (flags : List Bool) (x : Notes) (e : w .number ≡ k) (n : k ≡ 0 → ⊥) where
+    refused-after : (us : List Turn) (x' : Notes) → w .turns ≡ length us → x' ≡ withTurns us x → seen (work f st a) ≡ record { parts = us; end = refused k } → StepWorked f st a w temps flags x x'
+    refused-after us x' t y s = record {
+      refuses = λ m. ap (λ (r : Run Turn Outcome). r .end) s ∙ ap refused (sym e);
+      accepts = λ z. absurd (n (sym e ∙ z));
+      noted = record {
+        worked = t ∙ sym (ap (λ (r : Run Turn Outcome). length (r .parts)) s);
+        notes = y ∙ sym (ap (λ (r : Run Turn Outcome). withTurns (r .parts) x) s);
+      };
+    }
+
+    pub refused-before : w .turns ≡ 0 → seen (work f st a) ≡ record { parts = []; end = refused k } → StepWorked f st a w temps flags x x
+    unfolding withTurns
+    refused-before t s = refused-after [] x t refl s
+
+  pub step-refused : (k : ℕ) → k ≡ stepRefusal f st a → (k ≡ 0 → ⊥) → seen (work f st a) ≡ record { parts = []; end = refused k }
   unfolding work begin
   step-refused zero e n = absurd (n refl)
   step-refused (suc k) e n = rw (← e)
 
   module _ (passed : stepRefusal f st a ≡ 0) where
-    -- the end of the work, from where the events ended
-    abbrev after : End DrawOff → End Outcome
-    after e = thenTurns f st a [] e .end
+    -- the work, from where the events ended
+    abbrev after : End DrawOff → Run Turn Outcome
+    after e = seen (thenTurns f st a [] e)
 
-    end-only : (es : List Event) (e : End DrawOff) → thenTurns f st a es e .end ≡ after e
+    end-only : (es : List Event) (e : End DrawOff) → seen (thenTurns f st a es e) ≡ after e
     unfolding thenTurns
     end-only es (refused n) = refl
     end-only es (done s) = refl
@@ -99,34 +118,55 @@ module _ (f : Fixed) (st : State) (a : Step) where
       abbrev drawnOff : DrawOff
       drawnOff = record { temps = temps; totals = d .totals }
 
-      end-is : work f st a .end ≡ after (endBy (d .number) drawnOff)
+      end-is : seen (work f st a) ≡ after (endBy (d .number) drawnOff)
       unfolding work begin events
       end-is =
           rw passed
           (end-only _ _
-          ∙ ap after (events-run f (feedIn a) (wantedVolumes a) (record { temps = st .temps; totals = noTotals }) ∙ ap (λ (x : Drawing). endBy (x .number) (drawnAt x)) (sym drawn)))
+          ∙ ap after (events-run f (feedIn a) (wantedVolumes a) (record { temps = st .temps; totals = noTotals }) ∙ ap (λ (y : Drawing). endBy (y .number) (drawnAt y)) (sym drawn)))
 
-      pub drawn-refused : (d .number ≡ 0 → ⊥) → work f st a .end ≡ refused (d .number)
+      pub drawn-refused : (d .number ≡ 0 → ⊥) → seen (work f st a) ≡ record { parts = []; end = refused (d .number) }
       drawn-refused n = end-is ∙ go (d .number) n
         where
-          go : (k : ℕ) → (k ≡ 0 → ⊥) → after (endBy k drawnOff) ≡ refused k
+          go : (k : ℕ) → (k ≡ 0 → ⊥) → after (endBy k drawnOff) ≡ record { parts = []; end = refused k }
           go zero n = absurd (n refl)
           go (suc k) n = unfold endBy thenTurns in refl
 
+      -- the turns from there come to s and answer h, and write x' where x was
       module _ (accepted : d .number ≡ 0) (average : Float) (averaged : average ≡ cond (wideClose (d .totals .drawn) zero-f) (getD temps (c .layers - 1) nan) (d .totals .weighted ⊘ d .totals .drawn))
-          (number : ℕ) (s : Heating) (heated : TurnsWorked f (a .settings) (workingOrder f) (unheated temps (st .flags)) number s) where
-        turns-end : work f st a .end ≡ close drawnOff average (endBy number s)
-        unfolding thenTurns endBy averageOf turns
-        turns-end = end-is ∙ rw (accepted, ← averaged) (ap (close drawnOff average) heated)
+          (h : TurnsAnswer) (s : Heating) (x x' : Notes) (heated : TurnsWorked f (a .settings) (workingOrder f) (unheated temps (st .flags)) x h s x') where
+        abbrev turned : Run Turn Heating
+        turned = turns f (pointsOf a) temps (st .flags)
 
-        pub heated-refused : (number ≡ 0 → ⊥) → work f st a .end ≡ refused number
-        heated-refused n = turns-end ∙ go number n
-          where
-            go : (k : ℕ) → (k ≡ 0 → ⊥) → close drawnOff average (endBy k s) ≡ refused k
-            go zero n = absurd (n refl)
-            go (suc k) n = unfold endBy close in refl
+        abbrev parts : List Turn
+        parts = turned .parts
 
-        module _ (finished : number ≡ 0) where
+        turns-are : turnsBy 0 x turned ≡ record { end = endBy (h .number) s; worked = h .worked; notes = x' }
+        unfolding turns
+        turns-are = heated
+
+        many : h .worked ≡ length parts
+        many = let e = ap (λ (t : TurnsEnd). t .worked) turns-are in omega arith
+
+        noted : x' ≡ withTurns parts x
+        noted = sym (ap (λ (t : TurnsEnd). t .notes) turns-are)
+
+        turns-end : seen (work f st a) ≡ record { parts = parts; end = close drawnOff average (endBy (h .number) s) }
+        unfolding thenTurns endBy averageOf
+        turns-end =
+            end-is
+            ∙ rw (accepted, ← averaged) (ap (λ (e : End Heating). record { parts = parts; end = close drawnOff average e }) (ap (λ (t : TurnsEnd). t .end) turns-are))
+
+        -- w is what the code answers, with these layers and flags, where it refuses the step after its turns
+        module _ (w : WorkAnswer) (left : List Float) (flags : List Bool) (all : w .turns ≡ h .worked) where
+          pub heated-refused : w .number ≡ h .number → (h .number ≡ 0 → ⊥) → StepWorked f st a w left flags x x'
+          heated-refused e n = refused-after w (h .number) left flags x e n parts x' (all ∙ many) noted (turns-end ∙ ap (λ (y : End Outcome). record { parts = parts; end = y }) (go (h .number) n))
+            where
+              go : (k : ℕ) → (k ≡ 0 → ⊥) → close drawnOff average (endBy k s) ≡ refused k
+              go zero n = absurd (n refl)
+              go (suc k) n = unfold endBy close in refl
+
+        module _ (finished : h .number ≡ 0) where
           abbrev isFinite : Bool
           isFinite = finite average && finite (s .losses ⊛ dbl 0x3fe8_0000_0000_0000)
 
@@ -134,21 +174,25 @@ module _ (f : Fixed) (st : State) (a : Step) where
           abbrev outcome : Outcome
           outcome = record { drawn = drawnOff; average = average; heated = s }
 
-          closed-is : work f st a .end ≡ endBy (cond isFinite 0 10) outcome
+          closed-is : seen (work f st a) ≡ record { parts = parts; end = endBy (cond isFinite 0 10) outcome }
           unfolding close recoverable
           closed-is = turns-end ∙ rw finished (unfold endBy in refl)
 
-          pub close-refused : isFinite ≡ false → work f st a .end ≡ refused 10
+          pub close-refused : (w : WorkAnswer) (left : List Float) (flags : List Bool) → w .turns ≡ h .worked → w .number ≡ 10 → isFinite ≡ false → StepWorked f st a w left flags x x'
           unfolding endBy
-          close-refused e = closed-is ∙ rw e
+          close-refused w left flags all e q = refused-after w 10 left flags x e (λ z. omega arith) parts x' (all ∙ many) noted (closed-is ∙ rw q)
 
           -- what the code answers
           abbrev pub workAnswer : WorkAnswer
-          workAnswer = record { number = 0; totals = d .totals; average = average; recoverable = s .losses ⊛ dbl 0x3fe8_0000_0000_0000 }
+          workAnswer = record { number = 0; turns = h .worked; totals = d .totals; average = average; recoverable = s .losses ⊛ dbl 0x3fe8_0000_0000_0000 }
 
-          pub step-accepted : isFinite ≡ true → StepWorked f st a workAnswer (s .temps) (s .flags) (s .lines)
+          pub step-accepted : isFinite ≡ true → x' .lines ≡ s .lines → StepWorked f st a workAnswer (s .temps) (s .flags) x x'
           unfolding endBy recoverable
-          step-accepted e = record {
+          step-accepted e l = record {
             refuses = λ n. absurd (n refl);
-            accepts = λ z. (outcome, closed-is ∙ rw e, record { temps-are = refl; totals-are = refl; average-is = refl; flags-are = refl; lines-are = refl; recoverable-is = refl });
+            accepts = λ z. (outcome, ap (λ (r : Run Turn Outcome). r .end) closed-is ∙ rw e, record { temps-are = refl; totals-are = refl; average-is = refl; flags-are = refl; lines-are = sym l; recoverable-is = refl });
+            noted = record {
+              worked = many ∙ sym (ap (λ (r : Run Turn Outcome). length (r .parts)) closed-is);
+              notes = noted ∙ sym (ap (λ (r : Run Turn Outcome). withTurns (r .parts) x) closed-is);
+            };
           }

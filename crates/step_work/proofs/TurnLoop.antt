@@ -1,7 +1,7 @@
 -- Proves how the loop over a step's turns works out the run of the turns (01, Step; Turn): one turn more, or the turn that ends the step.
 use mathlib.Core.Path.{_≡_, refl, sym, ap, _∙_}
 use mathlib.Core.List.{List, [], _∷_}
-use mathlib.Core.Bool.{Bool, false}
+use mathlib.Core.Bool.{Bool}
 use Prim.Native.Nat.{ℕ, zero, suc, _+_, _<_, _≤_}
 use native.Mathlib.Omega.{arith}
 use native.Mathlib.Numerals.{add-one}
@@ -10,27 +10,27 @@ use lib.Seq.{slice, slice-cons}
 use lib.Ieee.{Float}
 use Rattle.cylinder.specs.declared.Cylinder.{Cylinder}
 use Rattle.heating.specs.declared.SetPoints.{SetPoints}
-use Rattle.immersion_heater.specs.Turn.{Turned, turn, turnNumber}
+use Rattle.immersion_heater.specs.Turn.{turnNumber}
 use Rattle.tank_model.specs.declared.Heater.{Heater}
 use Rattle.tank_model.specs.Fixed.{Placed, immersed, Fixed, noHeater, placedHeaters}
 use Rattle.tank_model.specs.Order.{workingOrder}
-use Rattle.tank_model.specs.Run.{End, endBy, Run, first, run}
-use Rattle.tank_model.specs.Work.{Heating, turnOf, afterTurn, workTurn}
+use Rattle.tank_model.specs.Run.{endBy, Run, first, run}
+use Rattle.tank_model.specs.Work.{Heating, Turn, turnOf, afterTurn, workTurn}
 use Rattle.tank_model.proofs.Order.{placed-at}
 use Rattle.tank_arrays.specs.Arrays.{fixedWith}
-use Rattle.step_work.specs.Lent.{immersion, fixedLent, TurnWorked}
+use Rattle.step_work.specs.Lent.{immersion, fixedLent, Notes, withTurn, withTurns, turnFrom, TurnsEnd, turnsBy, TurnWorked}
 
 -- ---- a run's first part: it goes on, or ends there
 
-module _ {P S : Type 0} (p : P) (r : Run P S) where
-  first-on : (n : ℕ) → n ≡ 0 → first p n r .end ≡ r .end
-  unfolding first
-  first-on n e = rw e
+module _ (n : ℕ) (x : Notes) (u : Turn) (r : Run Turn Heating) where
+  first-on : (m : ℕ) → m ≡ 0 → turnsBy n x (first u m r) ≡ turnsBy (n + 1) (withTurn u x) r
+  unfolding first withTurns
+  first-on m e = rw e (ap (λ (k : ℕ). record { end = r .end; worked = k; notes = withTurns (r .parts) (withTurn u x) }) (omega arith))
 
-  first-off : (n : ℕ) (s : S) → (n ≡ 0 → ⊥) → first p n r .end ≡ endBy n s
-  unfolding first endBy
+  first-off : (m : ℕ) (s : Heating) → (m ≡ 0 → ⊥) → turnsBy n x (first u m r) ≡ record { end = endBy m s; worked = n + 1; notes = withTurn u x }
+  unfolding first endBy withTurns
   first-off zero s e = absurd (e refl)
-  first-off (suc n) s e = refl
+  first-off (suc m) s e = refl
 
 -- past its end a slice is empty
 pub slice-past : (k n : ℕ) (xs : List ℕ) → n ≤ k → slice k n xs ≡ []
@@ -41,56 +41,54 @@ module _ (c : Cylinder) (vol : List Float) (n : ℕ) (fitted : List Heater) (poi
   fixed = record { cylinder = c; vol = vol; heaters = placedHeaters n fitted }
 
   -- the turn of the heater given as h, by the arrays
-  abbrev turnAt : ℕ → Heating → Turned
-  turnAt h s = turn c vol (immersion (c .layers) (getD fitted h noHeater)) (points h) (s .temps) (s .charged) (getD (s .flags) h false)
+  abbrev turnAt : ℕ → Heating → Turn
+  turnAt h s = turnFrom c vol (immersion (c .layers) (getD fitted h noHeater)) h (points h) s
 
-  turned-is : (h : ℕ) (s : Heating) → h < n → turnOf fixed points h s .turned ≡ turnAt h s
+  turned-is : (h : ℕ) (s : Heating) → h < n → turnOf fixed points h s ≡ turnAt h s
   unfolding turnOf
-  turned-is h s l =
-      ap (λ (y : Placed). turn c vol (immersed (c .layers) y) (points h) (s .temps) (s .charged) (getD (s .flags) h false))
-      (placed-at n fitted h l)
+  turned-is h s l = ap (λ (y : Placed). turnFrom c vol (immersed (c .layers) y) h (points h) s) (placed-at n fitted h l)
 
-  -- where the turns of the heaters hs end
-  abbrev pub turnsFrom : List ℕ → Heating → End Heating
-  turnsFrom hs s = run (workTurn fixed points) hs s .end
+  -- where the turns of the heaters hs end, after k turns that wrote x
+  abbrev pub turnsFrom : List ℕ → Heating → ℕ → Notes → TurnsEnd
+  turnsFrom hs s k x = turnsBy k x (run (workTurn fixed points) hs s)
 
-  module _ (h : ℕ) (hs : List ℕ) (s : Heating) (m : ℕ) (s' : Heating) (l : h < n) (w : TurnWorked c h (turnAt h s) s m s') where
-    turn-number : turnNumber c (turnOf fixed points h s .turned) ≡ m
-    turn-number = ap (turnNumber c) (turned-is h s l) ∙ sym (w .number)
+  module _ (h : ℕ) (hs : List ℕ) (s : Heating) (k : ℕ) (x : Notes) (m : ℕ) (s' : Heating) (x' : Notes) (l : h < n) (w : TurnWorked c (turnAt h s) s x m s' x') where
+    -- the turn as the definition has it, and then the run of the others
+    abbrev begun : Turn → TurnsEnd
+    begun u = turnsBy k x (first u (turnNumber c (u .turned)) (run (workTurn fixed points) hs (afterTurn h (u .turned) s)))
 
-    turn-leaves : afterTurn h (turnOf fixed points h s .turned) s ≡ s'
-    turn-leaves = ap (λ (u : Turned). afterTurn h u s) (turned-is h s l) ∙ sym (w .leaves)
-
-    turn-on : m ≡ 0 → turnsFrom (h ∷ hs) s ≡ turnsFrom hs s'
+    begins : turnsFrom (h ∷ hs) s k x ≡ begun (turnAt h s)
     unfolding run workTurn
-    turn-on z = first-on _ _ _ (turn-number ∙ z) ∙ ap (turnsFrom hs) turn-leaves
+    begins = ap begun (turned-is h s l)
 
-    turn-off : (m ≡ 0 → ⊥) → turnsFrom (h ∷ hs) s ≡ endBy (m) s'
-    unfolding run workTurn
-    turn-off z = first-off _ _ _ s' (λ q. z (sym turn-number ∙ q)) ∙ ap (λ (k : ℕ). endBy k s') turn-number
+    turn-on : m ≡ 0 → turnsFrom (h ∷ hs) s k x ≡ turnsFrom hs s' (k + 1) x'
+    turn-on z = begins ∙ first-on k x _ _ _ (sym (w .number-is) ∙ z) ∙ rw (w .leaves, w .notes)
+
+    turn-off : (m ≡ 0 → ⊥) → turnsFrom (h ∷ hs) s k x ≡ record { end = endBy m s'; worked = k + 1; notes = x' }
+    turn-off z = begins ∙ first-off k x _ _ _ s' (λ q. z (w .number-is ∙ q)) ∙ rw (w .number-is, w .notes)
 
   -- ---- the loop over the first n places of `order`, which has come to k
 
-  pub start-with : (hs : List ℕ) (s s' : Heating) → s ≡ s' → turnsFrom hs s' ≡ turnsFrom hs s
-  start-with hs s s' e = ap (turnsFrom hs) (sym e)
+  pub start-with : (hs : List ℕ) (s s' : Heating) (x : Notes) → s ≡ s' → turnsFrom hs s' 0 x ≡ turnsFrom hs s 0 x
+  start-with hs s s' x e = ap (λ (y : Heating). turnsFrom hs y 0 x) (sym e)
 
-  pub in-order : (hs hs' : List ℕ) (s : Heating) (e : End Heating) → hs ≡ hs' → turnsFrom hs' s ≡ e → turnsFrom hs s ≡ e
-  in-order hs hs' s e o h = ap (λ (gs : List ℕ). turnsFrom gs s) o ∙ h
+  pub in-order : (hs hs' : List ℕ) (s : Heating) (x : Notes) (e : TurnsEnd) → hs ≡ hs' → turnsFrom hs' s 0 x ≡ e → turnsFrom hs s 0 x ≡ e
+  in-order hs hs' s x e o h = ap (λ (gs : List ℕ). turnsFrom gs s 0 x) o ∙ h
 
-  module _ (order : List ℕ) (k : ℕ) (s : Heating) (whole : End Heating) (before : turnsFrom (slice k n order) s ≡ whole) where
-    pub loop-done : n ≤ k → whole ≡ endBy 0 s
-    unfolding run endBy
-    loop-done l = sym before ∙ ap (λ (hs : List ℕ). turnsFrom hs s) (slice-past k n order l)
+  module _ (order : List ℕ) (k : ℕ) (s : Heating) (x : Notes) (whole : TurnsEnd) (before : turnsFrom (slice k n order) s k x ≡ whole) where
+    pub loop-done : n ≤ k → whole ≡ record { end = endBy 0 s; worked = k; notes = x }
+    unfolding run endBy withTurns
+    loop-done l = sym before ∙ ap (λ (hs : List ℕ). turnsFrom hs s k x) (slice-past k n order l) ∙ ap (λ (i : ℕ). record { end = endBy 0 s; worked = i; notes = x }) (omega arith)
 
-    module _ (m : ℕ) (s' : Heating) (l : k < n) (long : n ≤ length order) (h : getD order k 0 < n) (w : TurnWorked c (getD order k 0) (turnAt (getD order k 0) s) s m s') where
-      one-more : turnsFrom (getD order k 0 ∷ slice (suc k) n order) s ≡ whole
-      one-more = sym (ap (λ (hs : List ℕ). turnsFrom hs s) (slice-cons k n order 0 l long)) ∙ before
+    module _ (m : ℕ) (s' : Heating) (x' : Notes) (l : k < n) (long : n ≤ length order) (h : getD order k 0 < n) (w : TurnWorked c (turnAt (getD order k 0) s) s x m s' x') where
+      one-more : turnsFrom (getD order k 0 ∷ slice (suc k) n order) s k x ≡ whole
+      one-more = sym (ap (λ (hs : List ℕ). turnsFrom hs s k x) (slice-cons k n order 0 l long)) ∙ before
 
-      pub loop-on : m ≡ 0 → turnsFrom (slice (k + 1) n order) s' ≡ whole
-      loop-on z = rw add-one (sym (turn-on (getD order k 0) (slice (suc k) n order) s m s' h w z) ∙ one-more)
+      pub loop-on : m ≡ 0 → turnsFrom (slice (k + 1) n order) s' (k + 1) x' ≡ whole
+      loop-on z = ap (λ (i : ℕ). turnsFrom (slice i n order) s' (k + 1) x') (add-one k) ∙ sym (turn-on (getD order k 0) (slice (suc k) n order) s k x m s' x' h w z) ∙ one-more
 
-      pub loop-off : (m ≡ 0 → ⊥) → whole ≡ endBy (m) s'
-      loop-off z = sym one-more ∙ turn-off (getD order k 0) (slice (suc k) n order) s m s' h w z
+      pub loop-off : (m ≡ 0 → ⊥) → whole ≡ record { end = endBy m s'; worked = k + 1; notes = x' }
+      loop-off z = sym one-more ∙ turn-off (getD order k 0) (slice (suc k) n order) s k x m s' x' h w z
 
 -- ---- the order of work does not look at the layers' volumes
 

@@ -1,18 +1,18 @@
 -- States how the code holds a step's work (01, Step): the layers, the charged losses, the flags and the lines in lent arrays, the heaters' losses and the
 -- number of a refusal in what its parts answer.
-use Prim.Native.Nat.{ℕ, _≤_, _<_}
+use Prim.Native.Nat.{ℕ, _+_, _≤_, _<_}
 use mathlib.Core.Path.{_≡_}
-use mathlib.Core.Bool.{Bool}
-use mathlib.Core.List.{List}
-use lib.ListN.{getD, length}
-use lib.Ieee.{Float}
+use mathlib.Core.Bool.{Bool, false}
+use mathlib.Core.List.{List, [], _∷_}
+use lib.ListN.{getD, length, set, replicate}
+use lib.Ieee.{Float, nan}
 use Rattle.numeric.specs.Double.{zero-f}
 use Rattle.mixing.specs.Limits.{maxLayers}
 use Rattle.cylinder.specs.declared.Cylinder.{Cylinder}
 use Rattle.draw_events.specs.declared.Totals.{Totals}
 use Rattle.heating.specs.declared.SetPoints.{SetPoints}
 use Rattle.immersion_heater.specs.declared.turn.Immersion.{Immersion}
-use Rattle.immersion_heater.specs.Turn.{Turned, turnNumber}
+use Rattle.immersion_heater.specs.Turn.{turn, turnNumber}
 use Rattle.working_order.specs.Order.{maxHeaters}
 use Rattle.tank_model.specs.declared.Heater.{Heater}
 use Rattle.tank_model.specs.declared.Setting.{Setting}
@@ -20,9 +20,9 @@ use Rattle.tank_model.specs.declared.Step.{Step}
 use Rattle.tank_model.specs.declared.HeaterLine.{HeaterLine}
 use Rattle.tank_model.specs.Fixed.{placed, immersed, placedHeaters, Fixed, State}
 use Rattle.tank_model.specs.Checks.{noSetting}
-use Rattle.tank_model.specs.Run.{refused, done, endBy, run}
-use Rattle.tank_model.specs.Work.{Heating, afterTurn, workTurn, Outcome, recoverable, work}
-use Rattle.tank_arrays.specs.Arrays.{fittedIn, linesIn}
+use Rattle.tank_model.specs.Run.{End, refused, done, endBy, Run, run}
+use Rattle.tank_model.specs.Work.{Heating, zeroLine, Turn, lineOf, afterTurn, workTurn, Outcome, recoverable, Work, work}
+use Rattle.tank_arrays.specs.Arrays.{twoEach, fittedIn, linesIn}
 use Rattle.step_work.specs.declared.turns.TurnsAnswer.{TurnsAnswer}
 use Rattle.step_work.specs.declared.work.WorkAnswer.{WorkAnswer}
 
@@ -50,7 +50,7 @@ heatingIn temps charged on s figures flags rounds = record {
 
 -- before the first turn
 abbrev pub noTurns : TurnsAnswer
-noTurns = record { number = 0; losses = zero-f }
+noTurns = record { number = 0; losses = zero-f; worked = 0 }
 
 -- a tank of c's layers and of n heaters can be worked
 pub record CanHeat (c : Cylinder) (n : ℕ) : Type 0 where
@@ -63,14 +63,68 @@ pub record OrderOf (n : ℕ) (order : List ℕ) : Type 0 where
   pub places : length order ≡ maxHeaters
   pub below : (k : ℕ) → k < n → getD order k 0 < n
 
--- the turn of the heater given as h, which came to u, is worked from s to s', and draws this number
-pub record TurnWorked (c : Cylinder) (h : ℕ) (u : Turned) (s : Heating) (n : ℕ) (s' : Heating) : Type 0 where
-  pub number : n ≡ turnNumber c u
-  pub leaves : s' ≡ afterTurn h u s
+-- ---- what the turns write as they go, also those of a step that is refused
 
--- the turns of the heaters hs are worked from s to s', or up to the one that draws this number
-abbrev pub TurnsWorked : Fixed → List Setting → List ℕ → Heating → ℕ → Heating → Type 0
-TurnsWorked f settings hs s n s' = run (workTurn f (pointsIn settings)) hs s .end ≡ endBy n s'
+-- the lines; for each heater its thermostat layer where its turn began, and after all of them where it ended; and whether it ran on
+pub record Notes : Type 0 where
+  pub lines : List HeaterLine
+  pub course : List Float
+  pub ran : List Bool
+
+abbrev pub notesIn : List Float → List Bool → List ℕ → List Float → List Bool → Notes
+notesIn figures flags rounds course ran = record { lines = linesIn figures flags rounds; course = course; ran = ran }
+
+-- before the first turn
+abbrev pub noNotes : Notes
+noNotes = record { lines = replicate maxHeaters zeroLine; course = replicate twoEach zero-f; ran = replicate maxHeaters false }
+
+-- each in the places of its heater
+abbrev pub withTurn : Turn → Notes → Notes
+withTurn u x = record {
+  lines = set (x .lines) (u .heater) (lineOf (u .turned));
+  course = set (set (x .course) (u .heater) (u .start)) (maxHeaters + u .heater) (u .finish);
+  ran = set (x .ran) (u .heater) (u .turned .ran);
+}
+
+unfoldable pub withTurns : List Turn → Notes → Notes
+withTurns [] x = x
+withTurns (u ∷ us) x = withTurns us (withTurn u x)
+
+-- ---- turns that are worked
+
+-- the turn of the immersion heater i, given as h, with these set points
+abbrev pub turnFrom : Cylinder → List Float → Immersion → ℕ → SetPoints → Heating → Turn
+turnFrom c vol i h p s =
+    let u = turn c vol i p (s .temps) (s .charged) (getD (s .flags) h false) in
+    record {
+      heater = h;
+      points = p;
+      before = s .temps;
+      start = getD (s .temps) (i .thermostat) nan;
+      turned = u;
+      finish = getD (u .temps) (i .thermostat) nan;
+    }
+
+-- the turn u is worked from s to s', noted, and draws this number
+pub record TurnWorked (c : Cylinder) (u : Turn) (s : Heating) (x : Notes) (number : ℕ) (s' : Heating) (x' : Notes) : Type 0 where
+  pub number-is : number ≡ turnNumber c (u .turned)
+  pub leaves : s' ≡ afterTurn (u .heater) (u .turned) s
+  pub notes : x' ≡ withTurn u x
+
+-- where turns ended, how many there were, and what they wrote
+pub record TurnsEnd : Type 0 where
+  pub end : End Heating
+  pub worked : ℕ
+  pub notes : Notes
+
+-- after n turns, which wrote x, those of the run r
+abbrev pub turnsBy : ℕ → Notes → Run Turn Heating → TurnsEnd
+turnsBy n x r = record { end = r .end; worked = n + length (r .parts); notes = withTurns (r .parts) x }
+
+-- the turns of the heaters hs are worked from s to s', or up to the one that ends them
+abbrev pub TurnsWorked : Fixed → List Setting → List ℕ → Heating → Notes → TurnsAnswer → Heating → Notes → Type 0
+TurnsWorked f settings hs s x r s' x' =
+    turnsBy 0 x (run (workTurn f (pointsIn settings)) hs s) ≡ record { end = endBy (r .number) s'; worked = r .worked; notes = x' }
 
 -- before the first event
 abbrev pub noTotals : Totals
@@ -85,7 +139,13 @@ pub record Left (s : Outcome) (w : WorkAnswer) (temps : List Float) (flags : Lis
   pub lines-are : s .heated .lines ≡ lines
   pub recoverable-is : recoverable (s .heated) ≡ w .recoverable
 
+-- what the turns of a step's work wrote, and how many there were
+pub record TurnsNoted (w : Work) (r : WorkAnswer) (x x' : Notes) : Type 0 where
+  pub worked : r .turns ≡ length (w .turns)
+  pub notes : x' ≡ withTurns (w .turns) x
+
 -- a step is worked: where its work ended, by what the code answers and leaves
-pub record StepWorked (f : Fixed) (st : State) (a : Step) (w : WorkAnswer) (temps : List Float) (flags : List Bool) (lines : List HeaterLine) : Type 0 where
+pub record StepWorked (f : Fixed) (st : State) (a : Step) (w : WorkAnswer) (temps : List Float) (flags : List Bool) (x x' : Notes) : Type 0 where
   pub refuses : (w .number ≡ 0 → ⊥) → work f st a .end ≡ refused (w .number)
-  pub accepts : w .number ≡ 0 → (s : Outcome) × (work f st a .end ≡ done s) × Left s w temps flags lines
+  pub accepts : w .number ≡ 0 → (s : Outcome) × (work f st a .end ≡ done s) × Left s w temps flags (x' .lines)
+  pub noted : TurnsNoted (work f st a) w x x'

@@ -1,14 +1,12 @@
 // The heaters' turns of a step, in working order, each on the layers left by the one before.
 ghost use mathlib.Core.Path.{_≡_};
-ghost use mathlib.Core.Bool.{false};
-ghost use Prim.Native.Nat.{_≤_, _<_};
-ghost use lib.ListN.{getD, take};
+ghost use Prim.Native.Nat.{_+_, _≤_, _<_};
+ghost use lib.ListN.{take};
 ghost use Rattle.mixing.specs.Limits.{maxLayers};
-ghost use Rattle.immersion_heater.specs.Turn.{turn};
 ghost use Rattle.working_order.specs.Order.{maxHeaters};
 ghost use Rattle.tank_model.specs.Order.{workingOrder};
 ghost use Rattle.tank_arrays.specs.Arrays.{settingsIn, HoldsLines};
-ghost use Rattle.step_work.specs.Lent.{immersion, fixedLent, noTurns, heatingIn, CanHeat, OrderOf, TurnWorked, TurnsWorked};
+ghost use Rattle.step_work.specs.Lent.{immersion, fixedLent, noTurns, heatingIn, notesIn, turnFrom, CanHeat, OrderOf, TurnWorked, TurnsWorked};
 use cylinder::Cylinder;
 use heating::SetPoints;
 use mixing::limits::MAX_LAYERS;
@@ -18,10 +16,12 @@ use tank_model::Heater;
 use tank_model::HeaterLine;
 use working_order::MAX_HEATERS;
 
-// Where the turns have come to, besides what they write in lent arrays: the number of 01's refusal or 0, and the heaters' losses so far.
+// Where the turns have come to, besides what they write in lent arrays: the number of 01's refusal or 0, the heaters' losses so far, and how many turns there
+// were.
 pub struct TurnsAnswer {
     pub number: u8,
     pub losses: f64,
+    pub worked: usize,
 }
 
 // Before the first turn.
@@ -31,10 +31,12 @@ pub fn no_turns() -> TurnsAnswer
     TurnsAnswer {
         number: 0,
         losses: 0.0,
+        worked: 0,
     }
 }
 
-// The turn of the heater given as h: its flag and its line are written.
+// The turn of the heater given as h: its flag and its line are written, and its course: the thermostat layer where it began and where it ended, and whether it
+// ran on.
 fn heat_turn(
     c: Cylinder,
     vol: &[f64; MAX_LAYERS],
@@ -48,17 +50,28 @@ fn heat_turn(
     figures: &mut [f64; THREE_EACH],
     flags: &mut [bool; MAX_HEATERS],
     rounds: &mut [usize; MAX_HEATERS],
+    course: &mut [f64; TWO_EACH],
+    ran: &mut [bool; MAX_HEATERS],
 ) -> TurnsAnswer
-    requires { ⌜ (1 ≤ c .layers) × (c .layers ≤ maxLayers) × (h < maxHeaters) × HoldsLines (now figures) (now flags) (now rounds) ⌝ }
-    ensures { λ r. ⌜ TurnWorked c h
-        (turn c (now (vol .entry)) (immersion (c .layers) x) p (now (temps .entry)) (now (charged .entry)) (getD (now (on .entry)) h false))
+    requires { ⌜ (1 ≤ c .layers) × (c .layers ≤ maxLayers) × (h < maxHeaters) × (s .worked < maxHeaters)
+        × HoldsLines (now figures) (now flags) (now rounds) ⌝ }
+    ensures { λ r. ⌜ TurnWorked c
+        (turnFrom c (now (vol .entry)) (immersion (c .layers) x) h p
+        (heatingIn (now (temps .entry)) (now (charged .entry)) (now (on .entry)) s (now (figures .entry)) (now (flags .entry)) (now (rounds .entry))))
         (heatingIn (now (temps .entry)) (now (charged .entry)) (now (on .entry)) s (now (figures .entry)) (now (flags .entry)) (now (rounds .entry)))
+        (notesIn (now (figures .entry)) (now (flags .entry)) (now (rounds .entry)) (now (course .entry)) (now (ran .entry)))
         (r .number)
         (heatingIn (now (temps .exit)) (now (charged .exit)) (now (on .exit)) r (now (figures .exit)) (now (flags .exit)) (now (rounds .exit)))
+        (notesIn (now (figures .exit)) (now (flags .exit)) (now (rounds .exit)) (now (course .exit)) (now (ran .exit)))
+        × (r .worked ≡ s .worked + 1)
         × HoldsLines (now (figures .exit)) (now (flags .exit)) (now (rounds .exit)) ⌝ }
 {
     let i = tank_model::immersion_of(c.layers, x);
+    let thermostat = i.thermostat;
+    course[h] = temps[thermostat];
     let u = immersion_heater::turn::turn(c, vol, i, p, on[h], temps, charged);
+    course[MAX_HEATERS + h] = temps[thermostat];
+    ran[h] = u.ran;
     on[h] = u.flag;
     let line = HeaterLine {
         flag: u.flag,
@@ -71,6 +84,7 @@ fn heat_turn(
     TurnsAnswer {
         number: u.number,
         losses: s.losses + u.losses,
+        worked: s.worked + 1,
     }
 }
 
@@ -90,14 +104,18 @@ fn heat_in_order(
     figures: &mut [f64; THREE_EACH],
     flags: &mut [bool; MAX_HEATERS],
     rounds: &mut [usize; MAX_HEATERS],
+    course: &mut [f64; TWO_EACH],
+    ran: &mut [bool; MAX_HEATERS],
 ) -> TurnsAnswer
     requires { ⌜ CanHeat c n × OrderOf n (now order) × HoldsLines (now figures) (now flags) (now rounds) ⌝ }
     ensures { λ r. ⌜ TurnsWorked (fixedLent c (now (vol .entry)) n (now (heaters .entry)) (now (thermostats .entry)))
         (settingsIn (now (present .entry)) (now (points .entry)))
         (take n (now (order .entry)))
         (heatingIn (now (temps .entry)) (now (charged .entry)) (now (on .entry)) noTurns (now (figures .entry)) (now (flags .entry)) (now (rounds .entry)))
-        (r .number)
+        (notesIn (now (figures .entry)) (now (flags .entry)) (now (rounds .entry)) (now (course .entry)) (now (ran .entry)))
+        r
         (heatingIn (now (temps .exit)) (now (charged .exit)) (now (on .exit)) r (now (figures .exit)) (now (flags .exit)) (now (rounds .exit)))
+        (notesIn (now (figures .exit)) (now (flags .exit)) (now (rounds .exit)) (now (course .exit)) (now (ran .exit)))
         × HoldsLines (now (figures .exit)) (now (flags .exit)) (now (rounds .exit)) ⌝ }
 {
     let mut s = no_turns();
@@ -119,6 +137,8 @@ fn heat_in_order(
             figures,
             flags,
             rounds,
+            course,
+            ran,
         );
         if s.number != 0 {
             return s;
@@ -128,7 +148,7 @@ fn heat_in_order(
     s
 }
 
-// `on` holds the heaters' flags; `figures`, `flags` and `rounds` take the report's lines.
+// `on` holds the heaters' flags; `figures`, `flags` and `rounds` take the report's lines, `course` and `ran` what the history tells besides.
 pub fn heat_turns(
     c: Cylinder,
     vol: &[f64; MAX_LAYERS],
@@ -143,14 +163,18 @@ pub fn heat_turns(
     figures: &mut [f64; THREE_EACH],
     flags: &mut [bool; MAX_HEATERS],
     rounds: &mut [usize; MAX_HEATERS],
+    course: &mut [f64; TWO_EACH],
+    ran: &mut [bool; MAX_HEATERS],
 ) -> TurnsAnswer
     requires { ⌜ CanHeat c n × HoldsLines (now figures) (now flags) (now rounds) ⌝ }
     ensures { λ r. ⌜ TurnsWorked (fixedLent c (now (vol .entry)) n (now (heaters .entry)) (now (thermostats .entry)))
         (settingsIn (now (present .entry)) (now (points .entry)))
         (workingOrder (fixedLent c (now (vol .entry)) n (now (heaters .entry)) (now (thermostats .entry))))
         (heatingIn (now (temps .entry)) (now (charged .entry)) (now (on .entry)) noTurns (now (figures .entry)) (now (flags .entry)) (now (rounds .entry)))
-        (r .number)
+        (notesIn (now (figures .entry)) (now (flags .entry)) (now (rounds .entry)) (now (course .entry)) (now (ran .entry)))
+        r
         (heatingIn (now (temps .exit)) (now (charged .exit)) (now (on .exit)) r (now (figures .exit)) (now (flags .exit)) (now (rounds .exit)))
+        (notesIn (now (figures .exit)) (now (flags .exit)) (now (rounds .exit)) (now (course .exit)) (now (ran .exit)))
         × HoldsLines (now (figures .exit)) (now (flags .exit)) (now (rounds .exit)) ⌝ }
 {
     let order = working_order::working_order(n, heaters);
@@ -169,5 +193,7 @@ pub fn heat_turns(
         figures,
         flags,
         rounds,
+        course,
+        ran,
     )
 }

@@ -8,8 +8,8 @@ ghost use lib.ListN.{getD};
 ghost use Rattle.numeric.specs.Double.{_⊘_, zero-f};
 ghost use Rattle.numeric.specs.Close.{wideClose};
 ghost use Rattle.mixing.specs.Limits.{maxLayers};
-ghost use Rattle.tank_arrays.specs.Arrays.{linesIn, HoldsLines, ZeroLines, fixedWith, stepWith};
-ghost use Rattle.step_work.specs.Lent.{noTotals, StepWorked};
+ghost use Rattle.tank_arrays.specs.Arrays.{HoldsLines, ZeroLines, fixedWith, stepWith};
+ghost use Rattle.step_work.specs.Lent.{noTotals, notesIn, StepWorked};
 use cylinder::Cylinder;
 use draw_events::Totals;
 use draw_events::event::MAX_EVENTS;
@@ -51,28 +51,30 @@ fn are_both_finite(x: f64, y: f64) -> bool
     numeric::compare::is_finite(y)
 }
 
-// What a step's work answers: 0 with what was drawn and the two figures of its end, or the number of 01's refusal.
+// What a step's work answers: 0 with what was drawn and the two figures of its end, or the number of 01's refusal; and how many heaters had their turn.
 pub struct WorkAnswer {
     pub number: u8,
+    pub turns: usize,
     pub totals: Totals,
     pub average: f64,
     pub recoverable: f64,
 }
 
-// Nothing but the number is looked at.
-fn refused(number: u8) -> WorkAnswer
-    ensures { λ r. ⌜ r .number ≡ number ⌝ }
+// Nothing but the number and the turns is looked at.
+fn refused(number: u8, turns: usize) -> WorkAnswer
+    ensures { λ r. ⌜ (r .number ≡ number) × (r .turns ≡ turns) ⌝ }
 {
     WorkAnswer {
         number,
+        turns,
         totals: no_totals(),
         average: 0.0,
         recoverable: 0.0,
     }
 }
 
-// A step's work, from checks to end, on what both calls lend: accepted, the layers, the heaters' flags `on` and the report's lines are what the step leaves;
-// refused, they are of no use.
+// A step's work, from checks to end, on what both calls lend: accepted, the layers, the heaters' flags `on` and the report's lines are what the step leaves.
+// Accepted or refused, the lines, `course` and `ran` hold what its turns wrote.
 pub fn work_step(
     c: Cylinder,
     n: usize,
@@ -89,12 +91,16 @@ pub fn work_step(
     figures: &mut [f64; THREE_EACH],
     flags: &mut [bool; MAX_HEATERS],
     rounds: &mut [usize; MAX_HEATERS],
+    course: &mut [f64; TWO_EACH],
+    ran: &mut [bool; MAX_HEATERS],
 ) -> WorkAnswer
     requires { ⌜ ZeroLines (now figures) (now flags) (now rounds) ⌝ }
     ensures { λ r. ⌜ StepWorked (fixedWith c n (now (heaters .entry)) (now (thermostats .entry)))
         (record { temps = now (temps .entry); flags = now (on .entry) })
         (stepWith feed events (now (volumes .entry)) entries (now (present .entry)) (now (points .entry)))
-        r (now (temps .exit)) (now (on .exit)) (linesIn (now (figures .exit)) (now (flags .exit)) (now (rounds .exit)))
+        r (now (temps .exit)) (now (on .exit))
+        (notesIn (now (figures .entry)) (now (flags .entry)) (now (rounds .entry)) (now (course .entry)) (now (ran .entry)))
+        (notesIn (now (figures .exit)) (now (flags .exit)) (now (rounds .exit)) (now (course .exit)) (now (ran .exit)))
         × (r .number ≡ 0 → HoldsLines (now (figures .exit)) (now (flags .exit)) (now (rounds .exit))) ⌝ }
 {
     let k = tank_arrays::refusals::lent_refusal(
@@ -111,13 +117,13 @@ pub fn work_step(
         points,
     );
     if k != 0 {
-        return refused(k);
+        return refused(k, 0);
     }
     let vol = cylinder::layer_volumes(c);
     let water = Feed { temperature: feed };
     let d = draw_events::event::draw_events(c, &vol, water, events, volumes, temps, no_totals());
     if d.number != 0 {
-        return refused(d.number);
+        return refused(d.number, 0);
     }
     let totals = d.totals;
     let average = average_of(c.layers, temps, totals);
@@ -136,16 +142,19 @@ pub fn work_step(
         figures,
         flags,
         rounds,
+        course,
+        ran,
     );
     if h.number != 0 {
-        return refused(h.number);
+        return refused(h.number, h.worked);
     }
     let recoverable = h.losses * 0.75;
     if !are_both_finite(average, recoverable) {
-        return refused(10);
+        return refused(10, h.worked);
     }
     WorkAnswer {
         number: 0,
+        turns: h.worked,
         totals,
         average,
         recoverable,

@@ -1,5 +1,5 @@
 -- Proves what make and step answer (01, The four calls) from what their parts decide: what make is refused for, and how a step's work ended.
-use mathlib.Core.Path.{_≡_, refl}
+use mathlib.Core.Path.{_≡_, refl, ap, _∙_}
 use mathlib.Core.List.{List, []}
 use mathlib.Core.Bool.{Bool}
 use Prim.Native.Nat.{ℕ, zero, suc, _≤_}
@@ -13,7 +13,6 @@ use Rattle.cylinder.specs.declared.Cylinder.{Cylinder}
 use Rattle.working_order.specs.Order.{maxHeaters}
 use Rattle.tank_model.specs.declared.TankDesign.{TankDesign}
 use Rattle.tank_model.specs.declared.Step.{Step}
-use Rattle.tank_model.specs.declared.HeaterLine.{HeaterLine}
 use Rattle.tank_model.specs.Fixed.{fixedOf}
 use Rattle.tank_model.specs.Checks.{makeRefusal}
 use Rattle.tank_model.specs.Run.{done}
@@ -22,12 +21,13 @@ use Rattle.tank_model.proofs.Passes.{tank-passes}
 use Rattle.tank_arrays.specs.Arrays.{heatersOf, thermostatsOf, fixedWith}
 use Rattle.tank_arrays.proofs.LentArrays.{heaters-back}
 use Rattle.step_work.specs.declared.work.WorkAnswer.{WorkAnswer}
-use Rattle.step_work.specs.Lent.{Left, StepWorked}
+use Rattle.step_work.specs.Lent.{Notes, noNotes, withTurns, Left, StepWorked}
 use Rattle.storage_tank.specs.declared.StorageTank.{StorageTank}
 use Rattle.storage_tank.specs.declared.Report.{Report}
+use Rattle.storage_tank.specs.declared.NotedStep.{NotedStep}
 use Rattle.storage_tank.specs.Tank.{fixedIn, stateIn}
 use Rattle.storage_tank.specs.Calls.{zeroTank, newTank, made, madeOf, answer, stepped}
-use Rattle.storage_tank.specs.Answers.{acceptedStep}
+use Rattle.storage_tank.specs.Answers.{acceptedStep, workOf, StepNoted}
 
 -- ---- make
 
@@ -52,13 +52,17 @@ pub fixed-back : (t : StorageTank) (c : Cylinder) (heaters : List Float) (thermo
     → fixedWith c (t .heaters) heaters thermostats ≡ fixedIn t
 fixed-back t c heaters thermostats d e f l = rw (d, e, f, heaters-back (t .fitted) l)
 
-module _ (t : StorageTank) (r : Report) (a : Step) (w : WorkAnswer) (temps : List Float) (flags : List Bool) (lines : List HeaterLine) (worked : StepWorked (fixedIn t) (stateIn t) a w temps flags lines) where
+module _ (t : StorageTank) (r : Report) (a : Step) (w : WorkAnswer) (temps : List Float) (flags : List Bool) (x x' : Notes) (worked : StepWorked (fixedIn t) (stateIn t) a w temps flags x x') where
   pub step-refuses : (w .number ≡ 0 → ⊥) → record { number = w .number; tank = t; report = r } ≡ stepped t r a
   unfolding stepped answer
   step-refuses n = rw (worked .refuses n)
 
-  pub step-accepts : w .number ≡ 0 → acceptedStep t temps flags w lines ≡ stepped t r a
+  pub step-accepts : w .number ≡ 0 → acceptedStep t temps flags w (x' .lines) ≡ stepped t r a
   step-accepts z = go (worked .accepts z .0) (worked .accepts z .1) (worked .accepts z .2)
     where
-      go : (s : Outcome) → work (fixedIn t) (stateIn t) a .end ≡ done s → Left s w temps flags lines → acceptedStep t temps flags w lines ≡ stepped t r a
+      go : (s : Outcome) → work (fixedIn t) (stateIn t) a .end ≡ done s → Left s w temps flags (x' .lines) → acceptedStep t temps flags w (x' .lines) ≡ stepped t r a
       go s e l = unfold stepped answer in (rw (e, ← l .recoverable-is, l .temps-are, l .totals-are, l .average-is, l .flags-are, l .lines-are))
+
+  -- what is noted from arrays of zeros
+  pub step-noted : (s : NotedStep) → s .stepped ≡ stepped t r a → s .turns ≡ w .turns → x ≡ noNotes → StepNoted t r a s x'
+  step-noted s e n z = record { answers = e; worked = n ∙ worked .noted .worked; notes = worked .noted .notes ∙ ap (withTurns (workOf t a .turns)) z }

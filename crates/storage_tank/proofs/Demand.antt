@@ -96,7 +96,7 @@ fixed-is m st l =
 
 module _ (n : ℕ) where
   -- a made tank has a place for each heater
-  abbrev Fits : Held → Type 0
+  abbrev pub Fits : Held → Type 0
   Fits x = n ≡ 0 → x .design .heaters ≤ maxHeaters
 
   call-is : (x : Held) (r : Report) (c : Call) → Fits x → answered (holding n x) r c ≡ answer (holding n x) r (callWork n c x .end)
@@ -117,20 +117,20 @@ module _ (n : ℕ) where
       go zero = unfold callWork in (one (work (fixedOf (x .design)) (x .state) a .end))
       go (suc k) = unfold callWork answer in refl
 
-  answered-tank : (x : Held) (r : Report) (c : Call) → Fits x → answered (holding n x) r c .tank ≡ holding n (carry x (callWork n c x .end))
+  pub answered-tank : (x : Held) (r : Report) (c : Call) → Fits x → answered (holding n x) r c .tank ≡ holding n (carry x (callWork n c x .end))
   answered-tank x r c f = ap (λ (y : Stepped). y .tank) (call-is x r c f) ∙ tank-is x r c
 
-  fits-next : (x : Held) (e : End Outcome) → Fits x → Fits (carry x e)
+  pub fits-next : (x : Held) (e : End Outcome) → Fits x → Fits (carry x e)
   fits-next x (refused k) f = f
   fits-next x (done s) f = f
 
   -- ---- a list of calls
 
   -- one call more: its work, and what it leaves to the others
-  abbrev next : Call → Held → Held
+  abbrev pub next : Call → Held → Held
   next c x = carry x (callWork n c x .end)
 
-  more-works : (c : Call) (calls : List Call) (x : Held) → run (workCall n) (c ∷ calls) x .parts ≡ callWork n c x ∷ run (workCall n) calls (next c x) .parts
+  pub more-works : (c : Call) (calls : List Call) (x : Held) → run (workCall n) (c ∷ calls) x .parts ≡ callWork n c x ∷ run (workCall n) calls (next c x) .parts
   unfolding workCall
   more-works c calls x = ap (λ (r : Run Work Held). r .parts) (more-parts (workCall n) (no-number n) c calls x)
 

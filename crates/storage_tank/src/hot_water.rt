@@ -2,7 +2,9 @@
 ghost use mathlib.Core.Path.{_≡_};
 ghost use Rattle.storage_tank.specs.Calls.{stepped};
 ghost use Rattle.storage_tank.specs.Tank.{fixedIn};
-ghost use Rattle.storage_tank.specs.Answers.{acceptedStep};
+ghost use Rattle.step_work.specs.Lent.{notesIn};
+ghost use Rattle.storage_tank.specs.Answers.{acceptedStep, StepNoted};
+use crate::NotedStep;
 use crate::Report;
 use crate::Stepped;
 use crate::StorageTank;
@@ -10,6 +12,7 @@ use cylinder::Cylinder;
 use mixing::limits::MAX_LAYERS;
 use step_work::work::WorkAnswer;
 use tank_arrays::arrays::THREE_EACH;
+use tank_arrays::arrays::TWO_EACH;
 use tank_model::HeaterLine;
 use tank_model::Step;
 use working_order::MAX_HEATERS;
@@ -55,54 +58,92 @@ fn accepted(
     }
 }
 
+// The step, with what its turns noted, refused or not: `figures`, `flags` and `rounds` hold the lines of the heaters that had their turn, `course` where their
+// thermostat layers began and where they ended, `ran` whether they ran on; and zeros for the others, whatever was lent.
+pub fn noted_step(
+    t: StorageTank,
+    report: Report,
+    a: Step,
+    figures: &mut [f64; THREE_EACH],
+    flags: &mut [bool; MAX_HEATERS],
+    rounds: &mut [usize; MAX_HEATERS],
+    course: &mut [f64; TWO_EACH],
+    ran: &mut [bool; MAX_HEATERS],
+) -> NotedStep
+    ensures { λ r. ⌜ StepNoted t report a r
+        (notesIn (now (figures .exit)) (now (flags .exit)) (now (rounds .exit)) (now (course .exit)) (now (ran .exit))) ⌝ }
+{
+    *figures = [0.0; THREE_EACH];
+    *flags = [false; MAX_HEATERS];
+    *rounds = [0; MAX_HEATERS];
+    *course = [0.0; TWO_EACH];
+    *ran = [false; MAX_HEATERS];
+    let fitted = t.fitted;
+    let heaters = tank_arrays::arrays::heaters_of(fitted);
+    let thermostats = tank_arrays::arrays::thermostats_of(fitted);
+    let settings = a.settings;
+    let present = tank_arrays::arrays::present_of(settings);
+    let points = tank_arrays::arrays::set_points_of(settings);
+    let c = cylinder_in(t);
+    let mut temps = t.temps;
+    let mut on = t.flags;
+    let w = step_work::work::work_step(
+        c,
+        t.heaters,
+        &heaters,
+        &thermostats,
+        a.feed,
+        a.events,
+        &a.volumes,
+        a.entries,
+        &present,
+        &points,
+        &mut temps,
+        &mut on,
+        figures,
+        flags,
+        rounds,
+        course,
+        ran,
+    );
+    if w.number != 0 {
+        return NotedStep {
+            turns: w.turns,
+            stepped: Stepped {
+                number: w.number,
+                tank: t,
+                report,
+            },
+        };
+    }
+    let lines = tank_arrays::arrays::lines_in(*figures, *flags, *rounds);
+    NotedStep {
+        turns: w.turns,
+        stepped: accepted(t, temps, on, w, lines),
+    }
+}
+
 impl StorageTank {
     // Steps the tank, for any numbers. Accepted, the answer is the stepped tank with its report; refused, the number of 01's refusal with the tank and the
     // report as they were handed in.
     pub fn demand_hot_water(self, report: Report, a: Step) -> Stepped
         ensures { λ r. ⌜ r ≡ stepped self report a ⌝ }
     {
-        let fitted = self.fitted;
-        let heaters = tank_arrays::arrays::heaters_of(fitted);
-        let thermostats = tank_arrays::arrays::thermostats_of(fitted);
-        let settings = a.settings;
-        let present = tank_arrays::arrays::present_of(settings);
-        let points = tank_arrays::arrays::set_points_of(settings);
-        let c = cylinder_in(self);
-        let mut temps = self.temps;
-        let mut on = self.flags;
         let mut figures = [0.0; THREE_EACH];
         let mut flags = [false; MAX_HEATERS];
         let mut rounds = [0; MAX_HEATERS];
-        let w = step_work::work::work_step(
-            c,
-            self.heaters,
-            &heaters,
-            &thermostats,
-            a.feed,
-            a.events,
-            &a.volumes,
-            a.entries,
-            &present,
-            &points,
-            &mut temps,
-            &mut on,
+        let mut course = [0.0; TWO_EACH];
+        let mut ran = [false; MAX_HEATERS];
+        let s = noted_step(
+            self,
+            report,
+            a,
             &mut figures,
             &mut flags,
             &mut rounds,
+            &mut course,
+            &mut ran,
         );
-        if w.number != 0 {
-            return Stepped {
-                number: w.number,
-                tank: self,
-                report,
-            };
-        }
-        accepted(
-            self,
-            temps,
-            on,
-            w,
-            tank_arrays::arrays::lines_in(figures, flags, rounds),
-        )
+        s.stepped
     }
 }

@@ -44,3 +44,9 @@ pub struct Stepped {
     pub tank: StorageTank,
     pub report: Report,
 }
+
+// What a step answers, and how many heaters had their turn in it.
+pub struct NotedStep {
+    pub turns: usize,
+    pub stepped: Stepped,
+}

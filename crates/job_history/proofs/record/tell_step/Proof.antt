@@ -5,17 +5,17 @@ use borrow.Author.Needs.{needs}
 use Rattle.job_history.proofs.record.tell_step.Statement.{statement}
 use Rattle.job_history.proofs.record.tell_step.Tie as tie
 
-step-turns-requires : tie.Need-step-turns-requires
-step-turns-requires c κs = search needs
+noted-step-requires : tie.Need-noted-step-requires
+noted-step-requires c κs = search needs
 
-demand-hot-water-requires : tie.Need-demand-hot-water-requires
-demand-hot-water-requires c κs = search needs
+turns-told-requires : tie.Need-turns-told-requires
+turns-told-requires c κs = record { many = c .before .before .before .before .before .noted-step .ensures .worked; notes = c .before .before .before .before .before .noted-step .ensures .notes }
 
 history-lines-requires : tie.Need-history-lines-requires
 history-lines-requires c κs = search needs
 
 add-job : tie.Need-add-job
-add-job c = search needs
+add-job c = search (needs, c .before .before .before .before .before .before .before .before .before .before .before .before .before .before .before .before .before .before .before .before .before .before .before .pre)
 
 same-length : tie.Need-same-length
 same-length c = search needs
@@ -23,16 +23,15 @@ same-length c = search needs
 returns : tie.Need-returns
 unfolding stepHistory historyStep
 returns c =
-    let told = c .before .before .before .before .before .before .before .before .step-turns .ensures .0 in
     let lines = c .before .before .before .before .before .history-lines .ensures in
-    rw (← c .before .before .before .before .before .before .before .demand-hot-water .ensures, ← told) (record { goes = refl; counts = lines .0; prints = lines .1; short = lines .2 })
+    rw (← c .before .before .before .before .before .before .before .before .before .before .before .before .before .before .noted-step .ensures .answers, ← c .before .before .before .before .before .before .before .before .turns-told .ensures .0) (record { goes = refl; counts = lines .0; prints = lines .1; short = lines .2 })
 
 pub tell-step-spec : {M : Type 1} → statement M
 tell-step-spec =
     tie.close
     (tie.spec
-    step-turns-requires
-    demand-hot-water-requires
+    noted-step-requires
+    turns-told-requires
     history-lines-requires
     add-job
     same-length

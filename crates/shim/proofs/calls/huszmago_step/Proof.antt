@@ -16,23 +16,23 @@ lengths-told-requires c κs = search needs
 element-copy-out-work-step : tie.Need-element-copy-out-work-step
 element-copy-out-work-step c = search needs
 
-element-copy-out-t37 : tie.Need-element-copy-out-t37
-element-copy-out-t37 c = search needs
+element-copy-out-t39 : tie.Need-element-copy-out-t39
+element-copy-out-t39 c = search needs
 
-element-copy-out-t40 : tie.Need-element-copy-out-t40
-element-copy-out-t40 c = search needs
+element-copy-out-t42 : tie.Need-element-copy-out-t42
+element-copy-out-t42 c = search needs
 
-element-copy-out-t43 : tie.Need-element-copy-out-t43
-element-copy-out-t43 c = search needs
+element-copy-out-t45 : tie.Need-element-copy-out-t45
+element-copy-out-t45 c = search needs
 
-element-copy-out-t46 : tie.Need-element-copy-out-t46
-element-copy-out-t46 c = search needs
+element-copy-out-t48 : tie.Need-element-copy-out-t48
+element-copy-out-t48 c = search needs
 
-element-copy-out-t49 : tie.Need-element-copy-out-t49
-element-copy-out-t49 c = search needs
+element-copy-out-t51 : tie.Need-element-copy-out-t51
+element-copy-out-t51 c = search needs
 
-element-copy-out-t52 : tie.Need-element-copy-out-t52
-element-copy-out-t52 c = search needs
+element-copy-out-t54 : tie.Need-element-copy-out-t54
+element-copy-out-t54 c = search needs
 
 flags-in-requires : tie.Need-flags-in-requires
 flags-in-requires c κs = search needs
@@ -57,14 +57,14 @@ work-step-requires c κs = record { figures-zero = refl; flags-zero = refl; roun
 
 returns : tie.Need-returns
 returns c =
-    let i = c .before .before .before .before .before .before .before .before .before .before .before .before .before .before .before .before .before .before .before .before .before .before .before .before .before .before .before .before .before .before .before .before .before .before .before .args in
-    let l = c .before .before .before .before .before .before .before .before .before .before .before .before .before .before .before .before .before .before .before .before .before .before .before .before .before .before .before .before .lengths-told .ensures in
+    let i = c .before .before .before .before .before .before .before .before .before .before .before .before .before .before .before .before .before .before .before .before .before .before .before .before .before .before .before .before .before .before .before .before .before .before .before .before .before .args in
+    let l = c .before .before .before .before .before .before .before .before .before .before .before .before .before .before .before .before .before .before .before .before .before .before .before .before .before .before .before .before .before .before .lengths-told .ensures in
     let w = c .before .before .work-step in
     let t = tankIn (i .counts .now) (i .numbers .now) (i .temps .now) (i .heaters .now) (i .thermostats .now) (i .flags .now) in
     let r = reportIn (i .totals .now) (i .figures .now) (i .line-flags .now) (i .rounds .now) in
     let a = stepIn (i .feed) (i .asked .now) (i .volumes .now) (i .present .now) (i .points .now) in
-    let worked = rw (c .before .before .before .before .before .before .before .before .before .before .before .before .before .before .before .before .before .before .before .flags-in .ensures, c .before .before .before .before .before .before .before .before .before .before .before .before .before .before .before .before .before .present-in .ensures, c .before .before .before .before .before .before .before .before .before .before .before .before .before .before .flags-in2 .ensures) at (w .ensures .0) in
-    refused-left (i .counts .now) (i .numbers .now) (i .temps .now) (i .heaters .now) (i .thermostats .now) (i .flags .now) (l .0) (l .1) (l .2) (i .totals .now) (i .figures .now) (i .line-flags .now) (i .rounds .now) (l .3) (l .4) (l .5) a _ (ap (λ (x : Stepped). x .number) (step-refuses t r a (w .result) _ _ _ worked (c .if1 .taken))) (c .if1 .taken)
+    let worked = rw (c .before .before .before .before .before .before .before .before .before .before .before .before .before .before .before .before .before .before .before .before .before .flags-in .ensures, c .before .before .before .before .before .before .before .before .before .before .before .before .before .before .before .before .before .before .before .present-in .ensures, c .before .before .before .before .before .before .before .before .before .before .before .before .before .before .before .before .flags-in2 .ensures) at (w .ensures .0) in
+    refused-left (i .counts .now) (i .numbers .now) (i .temps .now) (i .heaters .now) (i .thermostats .now) (i .flags .now) (l .0) (l .1) (l .2) (i .totals .now) (i .figures .now) (i .line-flags .now) (i .rounds .now) (l .3) (l .4) (l .5) a _ (ap (λ (x : Stepped). x .number) (step-refuses t r a (w .result) _ _ _ _ worked (c .if1 .taken))) (c .if1 .taken)
 
 bytes-of-requires : tie.Need-bytes-of-requires
 bytes-of-requires c κs = search needs
@@ -77,15 +77,15 @@ bytes-of-requires-2 c κs = search needs
 
 returns-2 : tie.Need-returns-2
 returns-2 c =
-    let i = c .before .before .before .before .before .before .before .before .before .before .before .before .before .before .before .before .before .before .before .before .before .before .before .before .before .before .before .before .before .before .before .before .before .before .before .before .before .before .args in
-    let l = c .before .before .before .before .before .before .before .before .before .before .before .before .before .before .before .before .before .before .before .before .before .before .before .before .before .before .before .before .before .before .before .lengths-told .ensures in
+    let i = c .before .before .before .before .before .before .before .before .before .before .before .before .before .before .before .before .before .before .before .before .before .before .before .before .before .before .before .before .before .before .before .before .before .before .before .before .before .before .before .before .args in
+    let l = c .before .before .before .before .before .before .before .before .before .before .before .before .before .before .before .before .before .before .before .before .before .before .before .before .before .before .before .before .before .before .before .before .before .lengths-told .ensures in
     let w = c .before .before .before .before .before .work-step in
     let t = tankIn (i .counts .now) (i .numbers .now) (i .temps .now) (i .heaters .now) (i .thermostats .now) (i .flags .now) in
     let r = reportIn (i .totals .now) (i .figures .now) (i .line-flags .now) (i .rounds .now) in
     let a = stepIn (i .feed) (i .asked .now) (i .volumes .now) (i .present .now) (i .points .now) in
-    let worked = rw (c .before .before .before .before .before .before .before .before .before .before .before .before .before .before .before .before .before .before .before .before .before .before .flags-in .ensures, c .before .before .before .before .before .before .before .before .before .before .before .before .before .before .before .before .before .before .before .before .present-in .ensures, c .before .before .before .before .before .before .before .before .before .before .before .before .before .before .before .before .before .flags-in2 .ensures) at (w .ensures .0) in
+    let worked = rw (c .before .before .before .before .before .before .before .before .before .before .before .before .before .before .before .before .before .before .before .before .before .before .before .before .flags-in .ensures, c .before .before .before .before .before .before .before .before .before .before .before .before .before .before .before .before .before .before .before .before .before .before .present-in .ensures, c .before .before .before .before .before .before .before .before .before .before .before .before .before .before .before .before .before .before .before .flags-in2 .ensures) at (w .ensures .0) in
     let z = c .before .before .before .if1 .left in
-    worked-left (i .counts .now) (i .numbers .now) (i .temps .now) (i .heaters .now) (i .thermostats .now) (i .flags .now) (l .0) (l .1) (l .2) (i .totals .now) (i .figures .now) (i .line-flags .now) (i .rounds .now) (l .3) (l .4) (l .5) a (w .result) _ _ _ _ _ _ _ _ (step-accepts t r a (w .result) _ _ _ worked z) (c .before .totals-of .ensures) (w .ensures .1 z) (c .before .before .bytes-of .ensures) (c .bytes-of2 .ensures)
+    worked-left (i .counts .now) (i .numbers .now) (i .temps .now) (i .heaters .now) (i .thermostats .now) (i .flags .now) (l .0) (l .1) (l .2) (i .totals .now) (i .figures .now) (i .line-flags .now) (i .rounds .now) (l .3) (l .4) (l .5) a (w .result) _ _ _ _ _ _ _ _ (step-accepts t r a (w .result) _ _ _ _ worked z) (c .before .totals-of .ensures) (w .ensures .1 z) (c .before .before .bytes-of .ensures) (c .bytes-of2 .ensures)
 
 pub huszmago-step-spec : {M : Type 1} → statement M
 huszmago-step-spec =
@@ -93,12 +93,12 @@ huszmago-step-spec =
     (tie.spec
     lengths-told-requires
     element-copy-out-work-step
-    element-copy-out-t37
-    element-copy-out-t40
-    element-copy-out-t43
-    element-copy-out-t46
-    element-copy-out-t49
-    element-copy-out-t52
+    element-copy-out-t39
+    element-copy-out-t42
+    element-copy-out-t45
+    element-copy-out-t48
+    element-copy-out-t51
+    element-copy-out-t54
     flags-in-requires
     present-in-requires
     flags-in-requires-2

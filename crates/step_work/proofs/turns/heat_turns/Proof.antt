@@ -14,15 +14,15 @@ working-order-requires : tie.Need-working-order-requires
 working-order-requires c κs = search needs
 
 heat-in-order-requires : tie.Need-heat-in-order-requires
-heat-in-order-requires c κs = (c .before .before .before .before .before .before .before .before .pre .0, record { places = search needs; below = λ k l. entry _ _ _ (c .before .before .before .before .before .before .before .working-order .ensures) k l }, c .before .before .before .before .before .before .before .before .pre .1)
+heat-in-order-requires c κs = (c .before .before .before .before .before .before .before .before .before .before .pre .0, record { places = search needs; below = λ k l. entry _ _ _ (c .before .before .before .before .before .before .before .before .before .working-order .ensures) k l }, c .before .before .before .before .before .before .before .before .before .before .pre .1)
 
 returns : tie.Need-returns
 returns c =
-    let a = c .before .before .before .before .before .before .before .before .before .args in
+    let a = c .before .before .before .before .before .before .before .before .before .before .before .args in
     let fitted = fittedIn (a .heaters .now) (a .thermostats .now) in
-    let p = c .before .before .before .before .before .before .before .before .before .pre .0 .few-heaters in
-    let order = same-order (a .c) (a .vol .now) (a .n) (a .heaters .now) (a .thermostats .now) ∙ order-lent (a .c) (a .n) (omega arith) (a .heaters .now) (a .thermostats .now) ∙ sym (first-entries _ _ _ (c .before .before .before .before .before .before .before .before .working-order .ensures)) in
-    (in-order (a .c) (a .vol .now) (a .n) fitted (pointsIn (settingsIn (a .present .now) (a .points .now))) _ _ _ _ order (c .heat-in-order .ensures .0), c .heat-in-order .ensures .1)
+    let p = c .before .before .before .before .before .before .before .before .before .before .before .pre .0 .few-heaters in
+    let order = same-order (a .c) (a .vol .now) (a .n) (a .heaters .now) (a .thermostats .now) ∙ order-lent (a .c) (a .n) (omega arith) (a .heaters .now) (a .thermostats .now) ∙ sym (first-entries _ _ _ (c .before .before .before .before .before .before .before .before .before .before .working-order .ensures)) in
+    (in-order (a .c) (a .vol .now) (a .n) fitted (pointsIn (settingsIn (a .present .now) (a .points .now))) _ _ _ _ _ order (c .heat-in-order .ensures .0), c .heat-in-order .ensures .1)
 
 pub heat-turns-spec : {M : Type 1} → statement M
 heat-turns-spec =

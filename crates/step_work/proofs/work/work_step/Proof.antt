@@ -1,5 +1,5 @@
 -- `work_step` meets its contract (01, Step): each of its parts may refuse the step; else it is accepted with what they leave.
-use mathlib.Core.Path.{sym, _∙_}
+use mathlib.Core.Path.{refl, sym, _∙_}
 use native.Mathlib.Omega.{arith}
 use borrow.Author.Tests.{not-true, not-false}
 use Rattle.tank_model.specs.Fixed.{State}
@@ -7,7 +7,7 @@ use Rattle.tank_arrays.specs.Arrays.{fittedIn, fixedWith, stepWith}
 use Rattle.tank_arrays.proofs.LentArrays.{zeros-hold}
 use Rattle.tank_arrays.proofs.FirstRefusal.{step-counts}
 use Rattle.step_work.proofs.TurnLoop.{start-with}
-use Rattle.step_work.proofs.StepWorked.{zeros-unheated, refused-worked, step-refused, drawn-refused, heated-refused, close-refused, step-accepted}
+use Rattle.step_work.proofs.StepWorked.{zeros-unheated, refused-before, step-refused, drawn-refused, heated-refused, close-refused, step-accepted}
 use borrow.Author.Needs.{needs}
 use Rattle.step_work.proofs.work.work_step.Statement.{statement}
 use Rattle.step_work.proofs.work.work_step.Tie as tie
@@ -24,7 +24,7 @@ returns c =
     let f = fixedWith (i .c) (i .n) (i .heaters .now) (i .thermostats .now) in
     let st : State = record { temps = i .temps .now; flags = i .on .now } in
     let a = stepWith (i .feed) (i .events) (i .volumes .now) (i .entries) (i .present .now) (i .points .now) in
-    (refused-worked f st a _ _ _ _ _ (c .refused .ensures) (c .before .if1 .taken) (step-refused f st a _ (c .before .before .lent-refusal .ensures (i .on .now)) (c .before .if1 .taken)), λ z. absurd (c .before .if1 .taken (sym (c .refused .ensures) ∙ z)))
+    (refused-before f st a _ _ _ _ _ (c .refused .ensures .0) (c .before .if1 .taken) (c .refused .ensures .1) (step-refused f st a _ (c .before .before .lent-refusal .ensures (i .on .now)) (c .before .if1 .taken)), λ z. absurd (c .before .if1 .taken (sym (c .refused .ensures .0) ∙ z)))
 
 layer-volumes-requires : tie.Need-layer-volumes-requires
 layer-volumes-requires c κs =
@@ -60,7 +60,7 @@ returns-2 c =
     let passed = sym (c .before .before .before .before .before .before .before .before .before .lent-refusal .ensures (i .on .now)) ∙ c .before .before .before .before .before .before .before .before .if1 .left in
     let d = c .before .before .before .draw-events .result in
     let drawn = rw (c .before .before .before .before .no-totals .ensures, c .before .before .before .before .before .before .before .layer-volumes .ensures) at (c .before .before .before .draw-events .ensures) in
-    (refused-worked f st a _ _ _ _ _ (c .refused2 .ensures) (c .before .if2 .taken) (drawn-refused f st a passed _ d drawn (c .before .if2 .taken)), λ z. absurd (c .before .if2 .taken (sym (c .refused2 .ensures) ∙ z)))
+    (refused-before f st a _ _ _ _ _ (c .refused2 .ensures .0) (c .before .if2 .taken) (c .refused2 .ensures .1) (drawn-refused f st a passed _ d drawn (c .before .if2 .taken)), λ z. absurd (c .before .if2 .taken (sym (c .refused2 .ensures .0) ∙ z)))
 
 average-of-requires : tie.Need-average-of-requires
 average-of-requires c κs =
@@ -74,28 +74,29 @@ average-of-requires c κs =
 
 heat-turns-requires : tie.Need-heat-turns-requires
 heat-turns-requires c κs =
-    let i = c .before .before .before .before .before .before .before .before .before .before .before .before .before .before .before .before .before .before .before .before .args in
+    let i = c .before .before .before .before .before .before .before .before .before .before .before .before .before .before .before .before .before .before .before .before .before .before .args in
     let f = fixedWith (i .c) (i .n) (i .heaters .now) (i .thermostats .now) in
     let st : State = record { temps = i .temps .now; flags = i .on .now } in
     let a = stepWith (i .feed) (i .events) (i .volumes .now) (i .entries) (i .present .now) (i .points .now) in
-    let passed = sym (c .before .before .before .before .before .before .before .before .before .before .before .before .before .before .before .before .before .before .lent-refusal .ensures (i .on .now)) ∙ c .before .before .before .before .before .before .before .before .before .before .before .before .before .before .before .before .before .if1 .left in
+    let passed = sym (c .before .before .before .before .before .before .before .before .before .before .before .before .before .before .before .before .before .before .before .before .lent-refusal .ensures (i .on .now)) ∙ c .before .before .before .before .before .before .before .before .before .before .before .before .before .before .before .before .before .before .before .if1 .left in
     let n = step-counts (i .c) (i .n) (fittedIn (i .heaters .now) (i .thermostats .now)) st a passed in
-    (record { some-layers = n .0; few-layers = n .1; few-heaters = n .2 }, zeros-hold _ _ _ (c .before .before .before .before .before .before .before .before .before .before .before .before .before .before .before .before .before .before .before .before .pre))
+    (record { some-layers = n .0; few-layers = n .1; few-heaters = n .2 }, zeros-hold _ _ _ (c .before .before .before .before .before .before .before .before .before .before .before .before .before .before .before .before .before .before .before .before .before .before .pre))
 
 refused-requires-3 : tie.Need-refused-requires-3
 refused-requires-3 c κs = search needs
 
 returns-3 : tie.Need-returns-3
 returns-3 c =
-    let i = c .before .before .before .before .before .before .before .before .before .before .before .before .before .before .before .before .before .before .before .before .before .before .before .before .args in
+    let i = c .before .before .before .before .before .before .before .before .before .before .before .before .before .before .before .before .before .before .before .before .before .before .before .before .before .before .args in
     let f = fixedWith (i .c) (i .n) (i .heaters .now) (i .thermostats .now) in
     let st : State = record { temps = i .temps .now; flags = i .on .now } in
     let a = stepWith (i .feed) (i .events) (i .volumes .now) (i .entries) (i .present .now) (i .points .now) in
-    let passed = sym (c .before .before .before .before .before .before .before .before .before .before .before .before .before .before .before .before .before .before .before .before .before .before .lent-refusal .ensures (i .on .now)) ∙ c .before .before .before .before .before .before .before .before .before .before .before .before .before .before .before .before .before .before .before .before .before .if1 .left in
-    let d = c .before .before .before .before .before .before .before .before .before .before .before .before .before .before .before .before .draw-events .result in
-    let drawn = rw (c .before .before .before .before .before .before .before .before .before .before .before .before .before .before .before .before .before .no-totals .ensures, c .before .before .before .before .before .before .before .before .before .before .before .before .before .before .before .before .before .before .before .before .layer-volumes .ensures) at (c .before .before .before .before .before .before .before .before .before .before .before .before .before .before .before .before .draw-events .ensures) in
-    let zeros = zeros-unheated _ (i .on .now) (i .figures .now) (i .flags .now) (i .rounds .now) (c .before .before .before .before .before .before .before .before .before .before .before .before .before .before .before .before .before .before .before .before .before .before .before .before .pre) in
-    (refused-worked f st a _ _ _ _ _ (c .refused3 .ensures) (c .before .if3 .taken) (heated-refused f st a passed _ d drawn (c .before .before .before .before .before .before .before .before .before .before .before .before .before .before .if2 .left) _ (c .before .before .before .before .before .before .before .before .before .before .before .average-of .ensures) _ _ (start-with _ _ _ _ _ _ _ _ zeros ∙ (rw (c .before .before .before .before .before .before .before .before .before .before .before .before .before .before .before .before .before .before .before .before .layer-volumes .ensures) at (c .before .before .before .heat-turns .ensures .0))) (c .before .if3 .taken)), λ z. absurd (c .before .if3 .taken (sym (c .refused3 .ensures) ∙ z)))
+    let passed = sym (c .before .before .before .before .before .before .before .before .before .before .before .before .before .before .before .before .before .before .before .before .before .before .before .before .lent-refusal .ensures (i .on .now)) ∙ c .before .before .before .before .before .before .before .before .before .before .before .before .before .before .before .before .before .before .before .before .before .before .before .if1 .left in
+    let d = c .before .before .before .before .before .before .before .before .before .before .before .before .before .before .before .before .before .before .draw-events .result in
+    let drawn = rw (c .before .before .before .before .before .before .before .before .before .before .before .before .before .before .before .before .before .before .before .no-totals .ensures, c .before .before .before .before .before .before .before .before .before .before .before .before .before .before .before .before .before .before .before .before .before .before .layer-volumes .ensures) at (c .before .before .before .before .before .before .before .before .before .before .before .before .before .before .before .before .before .before .draw-events .ensures) in
+    let zeros = zeros-unheated _ (i .on .now) (i .figures .now) (i .flags .now) (i .rounds .now) (c .before .before .before .before .before .before .before .before .before .before .before .before .before .before .before .before .before .before .before .before .before .before .before .before .before .before .pre) in
+    let heated = start-with _ _ _ _ _ _ _ _ _ zeros ∙ (rw (c .before .before .before .before .before .before .before .before .before .before .before .before .before .before .before .before .before .before .before .before .before .before .layer-volumes .ensures) at (c .before .before .before .heat-turns .ensures .0)) in
+    (heated-refused f st a passed _ d drawn (c .before .before .before .before .before .before .before .before .before .before .before .before .before .before .before .before .if2 .left) _ (c .before .before .before .before .before .before .before .before .before .before .before .before .before .average-of .ensures) (c .before .before .before .heat-turns .result) _ _ _ heated _ _ _ (c .refused3 .ensures .1) (c .refused3 .ensures .0) (c .before .if3 .taken), λ z. absurd (c .before .if3 .taken (sym (c .refused3 .ensures .0) ∙ z)))
 
 are-both-finite-requires : tie.Need-are-both-finite-requires
 are-both-finite-requires c κs = search needs
@@ -105,27 +106,29 @@ refused-requires-4 c κs = search needs
 
 returns-4 : tie.Need-returns-4
 returns-4 c =
-    let i = c .before .before .before .before .before .before .before .before .before .before .before .before .before .before .before .before .before .before .before .before .before .before .before .before .before .before .before .args in
+    let i = c .before .before .before .before .before .before .before .before .before .before .before .before .before .before .before .before .before .before .before .before .before .before .before .before .before .before .before .before .before .args in
     let f = fixedWith (i .c) (i .n) (i .heaters .now) (i .thermostats .now) in
     let st : State = record { temps = i .temps .now; flags = i .on .now } in
     let a = stepWith (i .feed) (i .events) (i .volumes .now) (i .entries) (i .present .now) (i .points .now) in
-    let passed = sym (c .before .before .before .before .before .before .before .before .before .before .before .before .before .before .before .before .before .before .before .before .before .before .before .before .before .lent-refusal .ensures (i .on .now)) ∙ c .before .before .before .before .before .before .before .before .before .before .before .before .before .before .before .before .before .before .before .before .before .before .before .before .if1 .left in
-    let d = c .before .before .before .before .before .before .before .before .before .before .before .before .before .before .before .before .before .before .before .draw-events .result in
-    let drawn = rw (c .before .before .before .before .before .before .before .before .before .before .before .before .before .before .before .before .before .before .before .before .no-totals .ensures, c .before .before .before .before .before .before .before .before .before .before .before .before .before .before .before .before .before .before .before .before .before .before .before .layer-volumes .ensures) at (c .before .before .before .before .before .before .before .before .before .before .before .before .before .before .before .before .before .before .before .draw-events .ensures) in
-    let zeros = zeros-unheated _ (i .on .now) (i .figures .now) (i .flags .now) (i .rounds .now) (c .before .before .before .before .before .before .before .before .before .before .before .before .before .before .before .before .before .before .before .before .before .before .before .before .before .before .before .pre) in
-    (refused-worked f st a _ _ _ _ _ (c .refused4 .ensures) (λ e. omega arith) (close-refused f st a passed _ d drawn (c .before .before .before .before .before .before .before .before .before .before .before .before .before .before .before .before .before .if2 .left) _ (c .before .before .before .before .before .before .before .before .before .before .before .before .before .before .average-of .ensures) _ _ (start-with _ _ _ _ _ _ _ _ zeros ∙ (rw (c .before .before .before .before .before .before .before .before .before .before .before .before .before .before .before .before .before .before .before .before .before .before .before .layer-volumes .ensures) at (c .before .before .before .before .before .before .heat-turns .ensures .0))) (c .before .before .before .before .if3 .left) (sym (c .before .before .are-both-finite .ensures) ∙ not-true _ (c .before .if4 .taken))), λ z. let e = sym (c .refused4 .ensures) ∙ z in absurd (omega arith))
+    let passed = sym (c .before .before .before .before .before .before .before .before .before .before .before .before .before .before .before .before .before .before .before .before .before .before .before .before .before .before .before .lent-refusal .ensures (i .on .now)) ∙ c .before .before .before .before .before .before .before .before .before .before .before .before .before .before .before .before .before .before .before .before .before .before .before .before .before .before .if1 .left in
+    let d = c .before .before .before .before .before .before .before .before .before .before .before .before .before .before .before .before .before .before .before .before .before .draw-events .result in
+    let drawn = rw (c .before .before .before .before .before .before .before .before .before .before .before .before .before .before .before .before .before .before .before .before .before .before .no-totals .ensures, c .before .before .before .before .before .before .before .before .before .before .before .before .before .before .before .before .before .before .before .before .before .before .before .before .before .layer-volumes .ensures) at (c .before .before .before .before .before .before .before .before .before .before .before .before .before .before .before .before .before .before .before .before .before .draw-events .ensures) in
+    let zeros = zeros-unheated _ (i .on .now) (i .figures .now) (i .flags .now) (i .rounds .now) (c .before .before .before .before .before .before .before .before .before .before .before .before .before .before .before .before .before .before .before .before .before .before .before .before .before .before .before .before .before .pre) in
+    let heated = start-with _ _ _ _ _ _ _ _ _ zeros ∙ (rw (c .before .before .before .before .before .before .before .before .before .before .before .before .before .before .before .before .before .before .before .before .before .before .before .before .before .layer-volumes .ensures) at (c .before .before .before .before .before .before .heat-turns .ensures .0)) in
+    (close-refused f st a passed _ d drawn (c .before .before .before .before .before .before .before .before .before .before .before .before .before .before .before .before .before .before .before .if2 .left) _ (c .before .before .before .before .before .before .before .before .before .before .before .before .before .before .before .before .average-of .ensures) (c .before .before .before .before .before .before .heat-turns .result) _ _ _ heated (c .before .before .before .before .if3 .left) _ _ _ (c .refused4 .ensures .1) (c .refused4 .ensures .0) (sym (c .before .before .are-both-finite .ensures) ∙ not-true _ (c .before .if4 .taken)), λ z. let e = sym (c .refused4 .ensures .0) ∙ z in absurd (omega arith))
 
 returns-5 : tie.Need-returns-5
 returns-5 c =
-    let i = c .before .before .before .before .before .before .before .before .before .before .before .before .before .before .before .before .before .before .before .before .before .before .before .before .before .before .args in
+    let i = c .before .before .before .before .before .before .before .before .before .before .before .before .before .before .before .before .before .before .before .before .before .before .before .before .before .before .before .before .args in
     let f = fixedWith (i .c) (i .n) (i .heaters .now) (i .thermostats .now) in
     let st : State = record { temps = i .temps .now; flags = i .on .now } in
     let a = stepWith (i .feed) (i .events) (i .volumes .now) (i .entries) (i .present .now) (i .points .now) in
-    let passed = sym (c .before .before .before .before .before .before .before .before .before .before .before .before .before .before .before .before .before .before .before .before .before .before .before .before .lent-refusal .ensures (i .on .now)) ∙ c .before .before .before .before .before .before .before .before .before .before .before .before .before .before .before .before .before .before .before .before .before .before .before .if1 .left in
-    let d = c .before .before .before .before .before .before .before .before .before .before .before .before .before .before .before .before .before .before .draw-events .result in
-    let drawn = rw (c .before .before .before .before .before .before .before .before .before .before .before .before .before .before .before .before .before .before .before .no-totals .ensures, c .before .before .before .before .before .before .before .before .before .before .before .before .before .before .before .before .before .before .before .before .before .before .layer-volumes .ensures) at (c .before .before .before .before .before .before .before .before .before .before .before .before .before .before .before .before .before .before .draw-events .ensures) in
-    let zeros = zeros-unheated _ (i .on .now) (i .figures .now) (i .flags .now) (i .rounds .now) (c .before .before .before .before .before .before .before .before .before .before .before .before .before .before .before .before .before .before .before .before .before .before .before .before .before .before .pre) in
-    (step-accepted f st a passed _ d drawn (c .before .before .before .before .before .before .before .before .before .before .before .before .before .before .before .before .if2 .left) _ (c .before .before .before .before .before .before .before .before .before .before .before .before .before .average-of .ensures) _ _ (start-with _ _ _ _ _ _ _ _ zeros ∙ (rw (c .before .before .before .before .before .before .before .before .before .before .before .before .before .before .before .before .before .before .before .before .before .before .layer-volumes .ensures) at (c .before .before .before .before .before .heat-turns .ensures .0))) (c .before .before .before .if3 .left) (sym (c .before .are-both-finite .ensures) ∙ not-false _ (c .if4 .left)), λ z. c .before .before .before .before .before .heat-turns .ensures .1)
+    let passed = sym (c .before .before .before .before .before .before .before .before .before .before .before .before .before .before .before .before .before .before .before .before .before .before .before .before .before .before .lent-refusal .ensures (i .on .now)) ∙ c .before .before .before .before .before .before .before .before .before .before .before .before .before .before .before .before .before .before .before .before .before .before .before .before .before .if1 .left in
+    let d = c .before .before .before .before .before .before .before .before .before .before .before .before .before .before .before .before .before .before .before .before .draw-events .result in
+    let drawn = rw (c .before .before .before .before .before .before .before .before .before .before .before .before .before .before .before .before .before .before .before .before .before .no-totals .ensures, c .before .before .before .before .before .before .before .before .before .before .before .before .before .before .before .before .before .before .before .before .before .before .before .before .layer-volumes .ensures) at (c .before .before .before .before .before .before .before .before .before .before .before .before .before .before .before .before .before .before .before .before .draw-events .ensures) in
+    let zeros = zeros-unheated _ (i .on .now) (i .figures .now) (i .flags .now) (i .rounds .now) (c .before .before .before .before .before .before .before .before .before .before .before .before .before .before .before .before .before .before .before .before .before .before .before .before .before .before .before .before .pre) in
+    let heated = start-with _ _ _ _ _ _ _ _ _ zeros ∙ (rw (c .before .before .before .before .before .before .before .before .before .before .before .before .before .before .before .before .before .before .before .before .before .before .before .before .layer-volumes .ensures) at (c .before .before .before .before .before .heat-turns .ensures .0)) in
+    (step-accepted f st a passed _ d drawn (c .before .before .before .before .before .before .before .before .before .before .before .before .before .before .before .before .before .before .if2 .left) _ (c .before .before .before .before .before .before .before .before .before .before .before .before .before .before .before .average-of .ensures) (c .before .before .before .before .before .heat-turns .result) _ _ _ heated (c .before .before .before .if3 .left) (sym (c .before .are-both-finite .ensures) ∙ not-false _ (c .if4 .left)) refl, λ z. c .before .before .before .before .before .heat-turns .ensures .1)
 
 pub work-step-spec : {M : Type 1} → statement M
 work-step-spec =

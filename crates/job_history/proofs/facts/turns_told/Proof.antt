@@ -1,0 +1,53 @@
+-- `facts::turns_told` meets its contract (01, Turn): none where there was no turn, else those of the heaters in the order of work.
+use mathlib.Core.Path.{sym, ap, _∙_}
+use native.Mathlib.Omega.{arith}
+use Rattle.working_order.proofs.Entries.{first-entries, entry}
+use Rattle.tank_arrays.proofs.WorkingOrder.{order-of}
+use Rattle.storage_tank.specs.Tank.{fixedIn}
+use Rattle.job_history.specs.Facts.{stepTurns, turnsOf}
+use Rattle.job_history.proofs.TurnsTold.{none-told, no-more, few-heaters, step-told}
+use borrow.Author.Needs.{needs}
+use Rattle.job_history.proofs.facts.turns_told.Statement.{statement}
+use Rattle.job_history.proofs.facts.turns_told.Tie as tie
+
+no-turns-requires : tie.Need-no-turns-requires
+no-turns-requires c κs = search needs
+
+returns : tie.Need-returns
+unfolding stepTurns
+returns c =
+    let none = none-told _ (sym (c .before .before .pre .many) ∙ c .before .if1 .taken) in
+    (c .no-turns .ensures ∙ ap turnsOf (sym none), rw (c .no-turns .ensures) (omega arith))
+
+heaters-of-requires : tie.Need-heaters-of-requires
+heaters-of-requires c κs = search needs
+
+working-order-requires : tie.Need-working-order-requires
+working-order-requires c κs = few-heaters (c .before .before .before .before .args .t) (c .before .before .before .before .args .a) _ _ (c .before .before .before .before .pre) (c .before .before .before .if1 .left)
+
+facts-in-order-requires : tie.Need-facts-in-order-requires
+facts-in-order-requires c κs =
+    let few = few-heaters (c .before .before .before .before .before .before .before .args .t) (c .before .before .before .before .before .before .before .args .a) _ _ (c .before .before .before .before .before .before .before .pre) (c .before .before .before .before .before .before .if1 .left) in
+    let more = no-more (c .before .before .before .before .before .before .before .args .t) (c .before .before .before .before .before .before .before .args .a) _ _ (c .before .before .before .before .before .before .before .pre) in
+    (omega arith, search needs, λ k l. let e = entry _ _ _ (c .before .before .working-order .ensures) k (omega arith) in omega arith)
+
+returns-2 : tie.Need-returns-2
+returns-2 c =
+    let t = c .before .before .before .before .before .before .before .before .args .t in
+    let few = few-heaters t (c .before .before .before .before .before .before .before .before .args .a) _ _ (c .before .before .before .before .before .before .before .before .pre) (c .before .before .before .before .before .before .before .if1 .left) in
+    let more = no-more t (c .before .before .before .before .before .before .before .before .args .a) _ _ (c .before .before .before .before .before .before .before .before .pre) in
+    let laid = c .before .before .before .before .before .heaters-of .ensures in
+    let order = first-entries _ _ _ (c .before .before .before .working-order .ensures) ∙ sym (order-of (fixedIn t .cylinder) (t .heaters) few (t .fitted) _ (laid .0) (laid .1)) in
+    let all = c .facts-in-order .ensures in
+    (all .0 ∙ ap turnsOf (step-told t (c .before .before .before .before .before .before .before .before .args .a) _ _ (c .before .before .before .before .before .before .before .before .pre) (c .before .before .before .before .before .before .before .if1 .left) _ order), rw (all .1) (omega arith))
+
+pub turns-told-spec : {M : Type 1} → statement M
+turns-told-spec =
+    tie.close
+    (tie.spec
+    no-turns-requires
+    returns
+    heaters-of-requires
+    working-order-requires
+    facts-in-order-requires
+    returns-2)
