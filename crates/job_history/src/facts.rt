@@ -6,11 +6,14 @@ ghost use lib.ListN.{getD, length};
 ghost use Rattle.working_order.specs.Order.{maxHeaters};
 ghost use Rattle.tank_arrays.specs.Arrays.{lineIn};
 ghost use Rattle.step_work.specs.Lent.{notesIn};
+ghost use Rattle.storage_tank.specs.Calls.{stepped};
 ghost use Rattle.job_history.specs.Facts.{stepTurns, noFact, turnsOf};
 ghost use Rattle.job_history.specs.Lent.{factBy, factsIn, NotedTurns};
+use crate::ToldStep;
 use crate::TurnFact;
 use crate::Turns;
 use heating::SetPoints;
+use storage_tank::Report;
 use storage_tank::StorageTank;
 use tank_arrays::arrays::THREE_EACH;
 use tank_arrays::arrays::TWO_EACH;
@@ -100,7 +103,7 @@ fn facts_in_order(
 }
 
 // The turns of a step from this tank, `count` of them, by what they noted: none where the step was refused before its first.
-pub fn turns_told(
+fn turns_told(
     t: StorageTank,
     a: Step,
     count: usize,
@@ -121,4 +124,28 @@ pub fn turns_told(
     let order = working_order::working_order(t.heaters, &heaters);
     let settings = a.settings;
     facts_in_order(count, &order, settings, figures, flags, rounds, course, ran)
+}
+
+// Steps a tank, for any numbers, and tells the step's turns: none where it is refused before its first.
+pub fn told_step(t: StorageTank, report: Report, a: Step) -> ToldStep
+    ensures { λ r. ⌜ (r .stepped ≡ stepped t report a) × (r .turns ≡ turnsOf (stepTurns t a)) × (r .turns .count ≤ maxHeaters) ⌝ }
+{
+    let mut figures = [0.0; THREE_EACH];
+    let mut flags = [false; MAX_HEATERS];
+    let mut rounds = [0; MAX_HEATERS];
+    let mut course = [0.0; TWO_EACH];
+    let mut ran = [false; MAX_HEATERS];
+    let s = storage_tank::hot_water::noted_step(
+        t,
+        report,
+        a,
+        &mut figures,
+        &mut flags,
+        &mut rounds,
+        &mut course,
+        &mut ran,
+    );
+    let turns = turns_told(t, a, s.turns, &figures, &flags, &rounds, &course, &ran);
+    let stepped = s.stepped;
+    ToldStep { stepped, turns }
 }

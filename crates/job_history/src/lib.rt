@@ -4,6 +4,7 @@ pub mod lines;
 pub mod record;
 
 use heating::SetPoints;
+use storage_tank::Stepped;
 use working_order::MAX_HEATERS;
 
 // What is told of a turn: whose it was, its set points, its thermostat layer where it began and where it ended, whether the heater ran on, its flag at the
@@ -23,4 +24,10 @@ pub struct TurnFact {
 pub struct Turns {
     pub count: usize,
     pub facts: [TurnFact; MAX_HEATERS],
+}
+
+// What a step answers, and its turns.
+pub struct ToldStep {
+    pub stepped: Stepped,
+    pub turns: Turns,
 }

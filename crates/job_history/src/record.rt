@@ -4,10 +4,7 @@ ghost use Rattle.job_history.specs.History.{historyStep, historyOutcome}
 use job_records::Record;
 use job_run::Job;
 use job_run::Printed;
-use tank_arrays::arrays::THREE_EACH;
-use tank_arrays::arrays::TWO_EACH;
 use tank_model::Step;
-use working_order::MAX_HEATERS;
 
 // A step's turns; the job goes on as it does when it prints its figures.
 fn tell_step(buf: &mut [u8], j: Job, next: usize, a: Step) -> Printed
@@ -16,31 +13,8 @@ fn tell_step(buf: &mut [u8], j: Job, next: usize, a: Step) -> Printed
 {
     let before = j.tank;
     let last = j.report;
-    let mut figures = [0.0; THREE_EACH];
-    let mut flags = [false; MAX_HEATERS];
-    let mut rounds = [0; MAX_HEATERS];
-    let mut course = [0.0; TWO_EACH];
-    let mut ran = [false; MAX_HEATERS];
-    let s = storage_tank::hot_water::noted_step(
-        before,
-        last,
-        a,
-        &mut figures,
-        &mut flags,
-        &mut rounds,
-        &mut course,
-        &mut ran,
-    );
-    let turns = crate::facts::turns_told(
-        before,
-        a,
-        s.turns,
-        &figures,
-        &flags,
-        &rounds,
-        &course,
-        &ran,
-    );
+    let s = crate::facts::told_step(before, last, a);
+    let turns = s.turns;
     let done = s.stepped;
     let length = crate::lines::history_lines(buf, j.steps, done.number, turns);
     let tank = done.tank;
