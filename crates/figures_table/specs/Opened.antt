@@ -16,9 +16,10 @@ use Rattle.draw_off.specs.Cold as Cold
 use Rattle.draw_off.specs.Draw as Draw
 use Rattle.refill.specs.Refill as Refill
 use Rattle.draw_events.specs.Event as Event
-use Rattle.heating.specs.SetPoints as SetPoints
+use Rattle.set_points.specs.SetPoints as SetPoints
+use Rattle.layer_losses.specs.Loss as Loss
+use Rattle.thermal_losses.specs.Losses as Losses
 use Rattle.heating.specs.Heat as Heat
-use Rattle.heating.specs.Losses as Losses
 use Rattle.heating.specs.FinalTemps as FinalTemps
 use Rattle.immersion_heater.specs.Switch as Switch
 use Rattle.immersion_heater.specs.Offer as Offer
@@ -44,8 +45,8 @@ unfolding I.round I.ofInt I.ofBits I.add I.sub I.mul I.div I.neg I.lt I.le I.eq 
     Refill.refill
     Event.eventMixing Event.eventOf Event.tempsAfterEvent Event.totalsAfterEvent Event.eventFinite Event.eventNumber
     SetPoints.hasUpper SetPoints.upperOf Switch.atOrUnderLower Switch.upperMissingOrReached Switch.switchOn Switch.switchOff Heat.offersTo Heat.heated
-    Losses.clearlyAbove Losses.overUpper Losses.standbyCoefficient Losses.warmed Losses.countedTemp Losses.standingLoss Losses.loss Losses.lossAt Losses.losses
-    Losses.limitedTemp Losses.tempsAfter Losses.chargedAfter Losses.surplusTerm Losses.surplus Losses.adjusted
+    Loss.clearlyAbove Loss.overUpper Loss.standbyCoefficient Loss.countedTemp Loss.standingLoss Loss.loss Loss.limitedTemp Loss.surplusTerm
+    Losses.warmed Losses.lossAt Losses.losses Losses.tempsAfter Losses.chargedAfter Losses.surplus Losses.adjusted
     FinalTemps.heatAndMix FinalTemps.adjustedInput FinalTemps.afterMixing FinalTemps.calcFinalTemps Offer.offer
     Supply.demand Supply.supply Turn.afterHeat Turn.turn Turn.turnFinite Turn.turnNumber
     Fixed.placedHeaters Sorting.insert Sorting.insertionSort Sorting.risingOrder Order.workingOrder FirstRefusal.firstRefusal Checks.pointsCheck

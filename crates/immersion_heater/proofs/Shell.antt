@@ -10,7 +10,7 @@ use Rattle.mixing.specs.Rearrange.{Mixing, sorted, unsorted}
 use Rattle.mixing.specs.Mix.{mixingNumber}
 use Rattle.cylinder.specs.declared.Cylinder.{Cylinder}
 use Rattle.cylinder.specs.Layers.{allFinite}
-use Rattle.heating.specs.declared.SetPoints.{SetPoints}
+use Rattle.set_points.specs.declared.SetPoints.{SetPoints}
 use Rattle.heating.specs.declared.final_temps.FinalTempsAnswer.{FinalTempsAnswer}
 use Rattle.heating.specs.Heat.{offersTo}
 use Rattle.heating.specs.FinalTemps.{FinalTemps, calcFinalTemps, finalTempsAnswer, Calculated}

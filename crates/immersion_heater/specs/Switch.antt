@@ -3,9 +3,9 @@
 use mathlib.Core.Bool.{Bool, true, false, cond, not, _||_}
 use lib.Ieee.{Float, lt}
 use Rattle.numeric.specs.Close.{narrowClose}
-use Rattle.heating.specs.declared.SetPoints.{SetPoints}
-use Rattle.heating.specs.declared.SetPoints.the-variants.{Neither, Lower, Upper, Both}
-use Rattle.heating.specs.SetPoints.{hasUpper, upperOf}
+use Rattle.set_points.specs.declared.SetPoints.{SetPoints}
+use Rattle.set_points.specs.declared.SetPoints.the-variants.{Neither, Lower, Upper, Both}
+use Rattle.set_points.specs.SetPoints.{hasUpper, upperOf}
 
 -- the thermostat layer is at (narrow-close) or under a lower set point
 unfoldable pub atOrUnderLower : SetPoints → Float → Bool

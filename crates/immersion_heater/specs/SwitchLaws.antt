@@ -4,9 +4,9 @@ use mathlib.Core.Path.{_≡_, refl, sym}
 use mathlib.Core.Bool.{Bool, true, false, not, _&&_, _||_, cond, and-false}
 use lib.Ieee.{Float, lt}
 use Rattle.numeric.specs.Close.{narrowClose}
-use Rattle.heating.specs.declared.SetPoints.{SetPoints}
-use Rattle.heating.specs.declared.SetPoints.the-variants.{Neither, Lower, Upper, Both}
-use Rattle.heating.specs.SetPoints.{hasUpper, upperOf}
+use Rattle.set_points.specs.declared.SetPoints.{SetPoints}
+use Rattle.set_points.specs.declared.SetPoints.the-variants.{Neither, Lower, Upper, Both}
+use Rattle.set_points.specs.SetPoints.{hasUpper, upperOf}
 use Rattle.immersion_heater.specs.Switch.{atOrUnderLower, reached, upperMissingOrReached, switchOn, switchOff}
 
 -- the flag after one that sets it, if s, and then resets it, if r

@@ -12,7 +12,7 @@ use Rattle.mixing.specs.Rearrange.{Mixing, sorted, unsorted}
 use Rattle.mixing.specs.Mix.{mixingRounds}
 use Rattle.cylinder.specs.declared.Cylinder.{Cylinder}
 use Rattle.cylinder.specs.Layers.{allFinite}
-use Rattle.heating.specs.declared.SetPoints.{SetPoints}
+use Rattle.set_points.specs.declared.SetPoints.{SetPoints}
 use Rattle.heating.specs.Heat.{offersTo}
 use Rattle.heating.specs.FinalTemps.{FinalTemps, calcFinalTemps}
 use Rattle.immersion_heater.specs.declared.turn.Immersion.{Immersion}

@@ -4,7 +4,7 @@ ghost use mathlib.Core.Bool.{_||_};
 ghost use lib.Ieee.{lt};
 ghost use Rattle.numeric.specs.Close.{narrowClose};
 ghost use Rattle.immersion_heater.specs.Switch.{atOrUnderLower, reached, switchOn, switchOff};
-use heating::SetPoints;
+use set_points::SetPoints;
 
 fn is_at_or_under(t: f64, lower: f64) -> bool
     ensures { λ r. ⌜ r ≡ (lt t lower || narrowClose t lower) ⌝ }
@@ -46,7 +46,7 @@ fn is_reached(t: f64, upper: f64) -> bool
 pub fn determine_heat_source_switch_on(p: SetPoints, t: f64, flag: bool) -> bool
     ensures { λ r. ⌜ r ≡ switchOn p t flag ⌝ }
 {
-    if heating::set_points::has_upper(p) {
+    if set_points::has_upper(p) {
         if is_at_or_under_lower(p, t) {
             return true;
         }
@@ -59,8 +59,8 @@ pub fn determine_heat_source_switch_on(p: SetPoints, t: f64, flag: bool) -> bool
 pub fn determine_heat_source_switch_off(p: SetPoints, t: f64, flag: bool) -> bool
     ensures { λ r. ⌜ r ≡ switchOff p t flag ⌝ }
 {
-    if heating::set_points::has_upper(p) {
-        if is_reached(t, heating::set_points::upper_of(p)) {
+    if set_points::has_upper(p) {
+        if is_reached(t, set_points::upper_of(p)) {
             return false;
         }
         return flag;

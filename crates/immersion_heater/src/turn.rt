@@ -7,8 +7,8 @@ ghost use Rattle.mixing.specs.Limits.{maxLayers};
 ghost use Rattle.cylinder.specs.Layers.{allFinite};
 ghost use Rattle.immersion_heater.specs.Turn.{turn, Worked};
 use cylinder::Cylinder;
-use heating::SetPoints;
 use mixing::limits::MAX_LAYERS;
+use set_points::SetPoints;
 
 // An immersion heater in a cylinder: its rated power (kW), its layer and its thermostat's.
 pub struct Immersion {

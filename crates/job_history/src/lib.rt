@@ -4,7 +4,7 @@ pub mod lines;
 pub mod record;
 pub mod refusal;
 
-use heating::SetPoints;
+use set_points::SetPoints;
 use working_order::MAX_HEATERS;
 
 // What is told of a turn: whose it was, its set points, its thermostat layer where it began and where it ended, whether the heater ran on, its flag at the

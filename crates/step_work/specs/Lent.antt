@@ -10,7 +10,7 @@ use Rattle.numeric.specs.Double.{zero-f}
 use Rattle.mixing.specs.Limits.{maxLayers}
 use Rattle.cylinder.specs.declared.Cylinder.{Cylinder}
 use Rattle.draw_events.specs.declared.Totals.{Totals}
-use Rattle.heating.specs.declared.SetPoints.{SetPoints}
+use Rattle.set_points.specs.declared.SetPoints.{SetPoints}
 use Rattle.immersion_heater.specs.declared.turn.Immersion.{Immersion}
 use Rattle.immersion_heater.specs.Turn.{Turned, turnNumber}
 use Rattle.working_order.specs.Order.{maxHeaters}

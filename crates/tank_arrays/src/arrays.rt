@@ -2,14 +2,14 @@
 ghost use mathlib.Core.Path.{_≡_};
 ghost use Prim.Native.Nat.{_<_};
 ghost use lib.ListN.{getD, length};
-ghost use Rattle.heating.specs.SetPoints.{hasUpper, upperOf};
+ghost use Rattle.set_points.specs.SetPoints.{hasUpper, upperOf};
 ghost use Rattle.working_order.specs.Order.{maxHeaters};
 ghost use Rattle.tank_model.specs.Fixed.{noHeater};
 ghost use Rattle.tank_model.specs.Checks.{noSetting};
 ghost use Rattle.tank_arrays.specs.Arrays.{fittedIn, heatersOf, thermostatsOf, pointsIn, settingsIn, hasLower, lowerOf, presentOf, setPointsOf};
 ghost use Rattle.tank_arrays.specs.Arrays.{lineIn, linesIn, HoldsLines};
 ghost use Rattle.tank_arrays.specs.Contracts.{LineWritten};
-use heating::SetPoints;
+use set_points::SetPoints;
 use tank_model::Heater;
 use tank_model::HeaterLine;
 use tank_model::Setting;
@@ -161,7 +161,7 @@ fn has_upper(x: Setting) -> bool
     ensures { λ r. ⌜ r ≡ hasUpper (x .points) ⌝ }
 {
     let p = x.points;
-    heating::set_points::has_upper(p)
+    set_points::has_upper(p)
 }
 
 // The lower set point, not-a-number where there is none.
@@ -182,7 +182,7 @@ fn upper_of(x: Setting) -> f64
     ensures { λ r. ⌜ r ≡ upperOf (x .points) ⌝ }
 {
     let p = x.points;
-    heating::set_points::upper_of(p)
+    set_points::upper_of(p)
 }
 
 // Whether the set points are present: the lower ones first, then the upper ones.

@@ -12,8 +12,8 @@ use crate::arrays::THREE_EACH;
 use crate::arrays::TWO_EACH;
 use cylinder::Cylinder;
 use draw_events::event::MAX_EVENTS;
-use heating::SetPoints;
 use mixing::limits::MAX_LAYERS;
+use set_points::SetPoints;
 use tank_model::Heater;
 use working_order::MAX_HEATERS;
 

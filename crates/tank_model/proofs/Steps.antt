@@ -17,8 +17,8 @@ use Rattle.mixing.specs.Rearrange.{Mixing, sorted, unsorted}
 use Rattle.cylinder.specs.Layers.{allFinite}
 use Rattle.draw_off.specs.declared.cold.Feed.{Feed}
 use Rattle.draw_events.specs.Event.{Event, mixed}
-use Rattle.heating.specs.declared.SetPoints.{SetPoints}
-use Rattle.heating.specs.declared.SetPoints.the-variants.{Neither, Lower, Upper, Both}
+use Rattle.set_points.specs.declared.SetPoints.{SetPoints}
+use Rattle.set_points.specs.declared.SetPoints.the-variants.{Neither, Lower, Upper, Both}
 use Rattle.immersion_heater.specs.Switch.{atOrUnderLower, upperMissingOrReached}
 use Rattle.immersion_heater.specs.SwitchLaws.{latched}
 use Rattle.working_order.specs.Order.{maxHeaters}

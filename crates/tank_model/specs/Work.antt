@@ -14,7 +14,7 @@ use Rattle.cylinder.specs.declared.Cylinder.{Cylinder}
 use Rattle.draw_events.specs.declared.Totals.{Totals}
 use Rattle.draw_off.specs.declared.cold.Feed.{Feed}
 use Rattle.draw_events.specs.Event.{Event, eventOf, tempsAfterEvent, totalsAfterEvent, eventNumber}
-use Rattle.heating.specs.declared.SetPoints.{SetPoints}
+use Rattle.set_points.specs.declared.SetPoints.{SetPoints}
 use Rattle.immersion_heater.specs.Turn.{Turned, turn, turnNumber}
 use Rattle.working_order.specs.Order.{maxHeaters}
 use Rattle.tank_model.specs.declared.HeaterLine.{HeaterLine}

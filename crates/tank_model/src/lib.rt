@@ -7,8 +7,8 @@ ghost use Rattle.mixing.specs.Limits.{maxLayers};
 ghost use Rattle.tank_model.specs.Fixed.{placed, immersed, zeroHeater};
 ghost use Rattle.tank_model.specs.Work.{zeroLine};
 use draw_events::event::MAX_EVENTS;
-use heating::SetPoints;
 use immersion_heater::turn::Immersion;
+use set_points::SetPoints;
 use working_order::MAX_HEATERS;
 
 // An immersion heater: its rated power (kW), its position, 0 at the bottom of the tank and 1 at its top, and its thermostat's, where it has one of its own.

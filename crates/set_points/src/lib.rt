@@ -1,0 +1,35 @@
+// A heater's set points, and the upper one of them.
+ghost use mathlib.Core.Path.{_≡_};
+ghost use Rattle.set_points.specs.SetPoints.{hasUpper, upperOf};
+
+// A heater's set points: neither, the lower only, the upper only, or both, the lower one first.
+pub enum SetPoints {
+    Neither,
+    Lower(f64),
+    Upper(f64),
+    Both(f64, f64),
+}
+
+pub fn has_upper(p: SetPoints) -> bool
+    ensures { λ r. ⌜ r ≡ hasUpper p ⌝ }
+{
+    match p {
+        SetPoints::Neither => false,
+        SetPoints::Lower(_) => false,
+        SetPoints::Upper(_) => true,
+        SetPoints::Both(_, _) => true,
+    }
+}
+
+// The upper set point, not-a-number where there is none.
+pub fn upper_of(p: SetPoints) -> f64
+    ensures { λ r. ⌜ r ≡ upperOf p ⌝ }
+{
+    let none = 0.0 / 0.0;
+    match p {
+        SetPoints::Neither => none,
+        SetPoints::Lower(_) => none,
+        SetPoints::Upper(u) => u,
+        SetPoints::Both(_, u) => u,
+    }
+}
