@@ -14,6 +14,7 @@ use Rattle.mixing.specs.Mix as Mix
 use Rattle.cylinder.specs.Layers as Layers
 use Rattle.draw_off.specs.Cold as Cold
 use Rattle.draw_off.specs.Draw as Draw
+use Rattle.layer_filling.specs.Filling as Filling
 use Rattle.refill.specs.Refill as Refill
 use Rattle.draw_events.specs.Event as Event
 use Rattle.set_points.specs.SetPoints as SetPoints
@@ -41,7 +42,7 @@ unfolding I.round I.ofInt I.ofBits I.add I.sub I.mul I.div I.neg I.lt I.le I.eq 
     Layers.layerVolumes Layers.noVolume Layers.allFinite
     Round.joins Round.member Round.groupTemp Round.pair Round.oneRound Rearrange.isSorted Rearrange.rounds Rearrange.rearrange Mix.mixRefusal
     Cold.cold Draw.givesAll Draw.share Draw.restAfter Draw.drawShare Draw.drawLayer Draw.drawLayers Draw.drawFeed Draw.extract Draw.volumeUsed
-    Refill.takeShare Refill.takeFrom Refill.takeBelow Refill.fromFeed Refill.entersWarmer Refill.fillingOf Refill.refillLayer Refill.refillLayers
+    Filling.takeShare Filling.takeFrom Filling.takeBelow Filling.fromFeed Filling.entersWarmer Refill.fillingOf Refill.refillLayer Refill.refillLayers
     Refill.refill
     Event.eventMixing Event.eventOf Event.tempsAfterEvent Event.totalsAfterEvent Event.eventFinite Event.eventNumber
     SetPoints.hasUpper SetPoints.upperOf Switch.atOrUnderLower Switch.upperMissingOrReached Switch.switchOn Switch.switchOff Heat.offersTo Heat.heated

@@ -1,8 +1,8 @@
--- `filling::take_from` meets its contract (01, Refill): a layer that holds more than zero gives its share, and any other is not met.
-use Rattle.refill.specs.Refill.{takeFrom}
+-- `take_from` meets its contract (01, Refill): a layer that holds more than zero gives its share, and any other is not met.
+use Rattle.layer_filling.specs.Filling.{takeFrom}
 use borrow.Author.Needs.{needs}
-use Rattle.refill.proofs.filling.take_from.Statement.{statement}
-use Rattle.refill.proofs.filling.take_from.Tie as tie
+use Rattle.layer_filling.proofs.take_from.Statement.{statement}
+use Rattle.layer_filling.proofs.take_from.Tie as tie
 
 mul-if1 : tie.Need-mul-if1
 mul-if1 c = search needs

@@ -1,9 +1,9 @@
--- `repeats::keep_filling` meets its contract (01, Refill): the volumes are those of the layer under n, and it repeats where the test says so.
+-- `keep_filling` meets its contract (01, Refill): the volumes are those of the layer under n, and it repeats where the test says so.
 use mathlib.Core.Path.{refl, sym}
 use mathlib.Core.Bool.{true≢false}
 use borrow.Author.Needs.{needs}
-use Rattle.refill.proofs.repeats.keep_filling.Statement.{statement}
-use Rattle.refill.proofs.repeats.keep_filling.Tie as tie
+use Rattle.repeating_layers.proofs.keep_filling.Statement.{statement}
+use Rattle.repeating_layers.proofs.keep_filling.Tie as tie
 
 returns : tie.Need-returns
 returns c = λ e. absurd (true≢false (sym e))

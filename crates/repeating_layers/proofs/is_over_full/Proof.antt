@@ -1,11 +1,11 @@
--- `repeats::is_over_full` meets its contract (01, Refill): the layer below is found as large as the one that repeats, and full.
+-- `is_over_full` meets its contract (01, Refill): the layer below is found as large as the one that repeats, and full.
 use mathlib.Core.Path.{sym}
 use mathlib.Core.Bool.{true≢false}
 use borrow.Author.Tests.{not-false}
-use Rattle.refill.proofs.Repeating.{over-full}
+use Rattle.repeating_layers.proofs.Below.{over-full}
 use borrow.Author.Needs.{needs}
-use Rattle.refill.proofs.repeats.is_over_full.Statement.{statement}
-use Rattle.refill.proofs.repeats.is_over_full.Tie as tie
+use Rattle.repeating_layers.proofs.is_over_full.Statement.{statement}
+use Rattle.repeating_layers.proofs.is_over_full.Tie as tie
 
 returns : tie.Need-returns
 returns c = λ e. absurd (true≢false (sym e))

@@ -8,7 +8,7 @@ use lib.ListN.{getD}
 use lib.Ieee.{Float, nan, lt}
 use Rattle.numeric.specs.Double.{_⊕_, _⊖_, zero-f}
 use Rattle.cylinder.specs.Layers.{noVolume}
-use Rattle.refill.specs.declared.repeats.KeptFilling.{KeptFilling}
+use Rattle.repeating_layers.specs.declared.KeptFilling.{KeptFilling}
 
 -- a layer that holds `held` of `full` lacks some; a full layer below it has more than that, and is left with `held` in its turn
 pub record Repeats (full held : Float) : Type 0 where

@@ -4,8 +4,8 @@ ghost use mathlib.Core.List.{List};
 ghost use Prim.Native.Nat.{_<_};
 ghost use lib.Ieee.{Float};
 ghost use Rattle.mixing.specs.Limits.{maxLayers};
-ghost use Rattle.refill.specs.Refill.{takeShare, takeFrom, fromFeed, entersWarmer};
-ghost use Rattle.refill.specs.Lent.{startFilling, fillingWith};
+ghost use Rattle.layer_filling.specs.Filling.{takeShare, takeFrom, fromFeed, entersWarmer};
+ghost use Rattle.layer_filling.specs.Lent.{startFilling, fillingWith};
 use draw_off::cold::Feed;
 use mixing::limits::MAX_LAYERS;
 

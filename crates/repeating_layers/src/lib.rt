@@ -3,7 +3,7 @@ ghost use mathlib.Core.Path.{_≡_};
 ghost use mathlib.Core.Bool.{true};
 ghost use Prim.Native.Nat.{_-_, _≤_, _<_};
 ghost use Rattle.mixing.specs.Limits.{maxLayers};
-ghost use Rattle.refill.specs.Repeats.{Repeats, RepeatsAt, OverFull};
+ghost use Rattle.repeating_layers.specs.Repeats.{Repeats, RepeatsAt, OverFull};
 use mixing::limits::MAX_LAYERS;
 
 // The volumes of a layer, where it repeats: it takes `full` and holds `held`; it lacks `lack`, and has `after` when it is filled. A full layer below it comes

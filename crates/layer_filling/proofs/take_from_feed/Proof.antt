@@ -1,8 +1,8 @@
--- `filling::take_from_feed` meets its contract (01, Refill): a lack above zero enters at cold(lack).
-use Rattle.refill.specs.Refill.{fromFeed}
+-- `take_from_feed` meets its contract (01, Refill): a lack above zero enters at cold(lack).
+use Rattle.layer_filling.specs.Filling.{fromFeed}
 use borrow.Author.Needs.{needs}
-use Rattle.refill.proofs.filling.take_from_feed.Statement.{statement}
-use Rattle.refill.proofs.filling.take_from_feed.Tie as tie
+use Rattle.layer_filling.proofs.take_from_feed.Statement.{statement}
+use Rattle.layer_filling.proofs.take_from_feed.Tie as tie
 
 cold-temp-requires : tie.Need-cold-temp-requires
 cold-temp-requires c κs = search needs

@@ -1,8 +1,8 @@
--- `filling::take_share` meets its contract (01, Refill): the operations are those of the definition, in its grouping.
-use Rattle.refill.specs.Refill.{takeShare}
+-- `take_share` meets its contract (01, Refill): the operations are those of the definition, in its grouping.
+use Rattle.layer_filling.specs.Filling.{takeShare}
 use borrow.Author.Needs.{needs}
-use Rattle.refill.proofs.filling.take_share.Statement.{statement}
-use Rattle.refill.proofs.filling.take_share.Tie as tie
+use Rattle.layer_filling.proofs.take_share.Statement.{statement}
+use Rattle.layer_filling.proofs.take_share.Tie as tie
 
 mul-h : tie.Need-mul-h
 mul-h c = search needs

@@ -1,10 +1,10 @@
--- `repeats::does_repeat` meets its contract (01, Refill): its tests are what is asked of layers that repeat.
+-- `does_repeat` meets its contract (01, Refill): its tests are what is asked of layers that repeat.
 use mathlib.Core.Path.{sym, _∙_}
 use mathlib.Core.Bool.{true≢false}
 use borrow.Author.Tests.{not-false}
 use borrow.Author.Needs.{needs}
-use Rattle.refill.proofs.repeats.does_repeat.Statement.{statement}
-use Rattle.refill.proofs.repeats.does_repeat.Tie as tie
+use Rattle.repeating_layers.proofs.does_repeat.Statement.{statement}
+use Rattle.repeating_layers.proofs.does_repeat.Tie as tie
 
 is-no-volume-requires : tie.Need-is-no-volume-requires
 is-no-volume-requires c κs = search needs

@@ -1,8 +1,8 @@
--- `filling::does_enter_warmer` meets its contract (01, Refill): the two tests of the definition, in its order.
-use Rattle.refill.specs.Refill.{entersWarmer}
+-- `does_enter_warmer` meets its contract (01, Refill): the two tests of the definition, in its order.
+use Rattle.layer_filling.specs.Filling.{entersWarmer}
 use borrow.Author.Needs.{needs}
-use Rattle.refill.proofs.filling.does_enter_warmer.Statement.{statement}
-use Rattle.refill.proofs.filling.does_enter_warmer.Tie as tie
+use Rattle.layer_filling.proofs.does_enter_warmer.Statement.{statement}
+use Rattle.layer_filling.proofs.does_enter_warmer.Tie as tie
 
 cold-temp-requires : tie.Need-cold-temp-requires
 cold-temp-requires c κs = search needs
