@@ -25,7 +25,7 @@ use Rattle.tank_model.specs.Members.{All}
 use Rattle.tank_model.specs.Run.{End, refused, done, endBy, Run, first, run}
 use Rattle.tank_model.specs.Work.{DrawOff, feedIn, wantedVolumes, events, Heating, Turn, unheated, turnOf, afterTurn, workTurn, turns, thenTurns, begin, work}
 use Rattle.tank_model.proofs.Order.{many-placed, placed-at, order-below}
-use Rattle.tank_arrays.proofs.FirstRefusal.{step-counts}
+use Rattle.tank_refusals.proofs.FirstRefusal.{step-counts}
 use Rattle.step_work.specs.Lent.{noTotals}
 use Rattle.step_work.proofs.StepWorked.{events-run}
 use Rattle.storage_tank.specs.declared.StorageTank.{StorageTank}

@@ -69,7 +69,7 @@ fn tell_turn(
         (turn c (now (vol .entry)) (immersion (c .layers) x) p (now (temps .entry)) (now (charged .entry)) flag)
         r (now (temps .exit)) (now (charged .exit)) ⌝ }
 {
-    let i = tank_model::immersion_of(c.layers, x);
+    let i = tank_arrays::heaters::immersion_of(c.layers, x);
     let thermostat = i.thermostat;
     let start = temps[thermostat];
     let u = immersion_heater::turn::turn(c, vol, i, p, flag, temps, charged);

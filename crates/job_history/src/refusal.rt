@@ -15,7 +15,7 @@ pub fn step_refusal(t: StorageTank, a: Step) -> u8
     let settings = a.settings;
     let present = tank_arrays::arrays::present_of(settings);
     let points = tank_arrays::arrays::set_points_of(settings);
-    tank_arrays::refusals::lent_refusal(
+    tank_refusals::refusals::lent_refusal(
         c,
         t.heaters,
         &t.temps,

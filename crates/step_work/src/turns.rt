@@ -57,7 +57,7 @@ fn heat_turn(
         (heatingIn (now (temps .exit)) (now (charged .exit)) (now (on .exit)) r (now (figures .exit)) (now (flags .exit)) (now (rounds .exit)))
         × HoldsLines (now (figures .exit)) (now (flags .exit)) (now (rounds .exit)) ⌝ }
 {
-    let i = tank_model::immersion_of(c.layers, x);
+    let i = tank_arrays::heaters::immersion_of(c.layers, x);
     let u = immersion_heater::turn::turn(c, vol, i, p, on[h], temps, charged);
     on[h] = u.flag;
     let line = HeaterLine {

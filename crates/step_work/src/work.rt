@@ -97,7 +97,7 @@ pub fn work_step(
         r (now (temps .exit)) (now (on .exit)) (linesIn (now (figures .exit)) (now (flags .exit)) (now (rounds .exit)))
         × (r .number ≡ 0 → HoldsLines (now (figures .exit)) (now (flags .exit)) (now (rounds .exit))) ⌝ }
 {
-    let k = tank_arrays::refusals::lent_refusal(
+    let k = tank_refusals::refusals::lent_refusal(
         c,
         n,
         temps,
