@@ -22,7 +22,7 @@ use Rattle.layer_losses.specs.Loss as Loss
 use Rattle.thermal_losses.specs.Losses as Losses
 use Rattle.heating.specs.Heat as Heat
 use Rattle.heating.specs.FinalTemps as FinalTemps
-use Rattle.immersion_heater.specs.Switch as Switch
+use Rattle.heater_switches.specs.Switch as Switch
 use Rattle.immersion_heater.specs.Offer as Offer
 use Rattle.immersion_heater.specs.Supply as Supply
 use Rattle.immersion_heater.specs.Turn as Turn

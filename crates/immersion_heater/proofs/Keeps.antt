@@ -8,7 +8,7 @@ use Rattle.cylinder.specs.declared.Cylinder.{Cylinder}
 use Rattle.set_points.specs.declared.SetPoints.{SetPoints}
 use Rattle.heating.proofs.Keeps.{final-temps-keep}
 use Rattle.immersion_heater.specs.declared.turn.Immersion.{Immersion}
-use Rattle.immersion_heater.specs.Switch.{switchOn}
+use Rattle.heater_switches.specs.Switch.{switchOn}
 use Rattle.immersion_heater.specs.Turn.{offers, afterHeat, turn}
 
 module _ (c : Cylinder) (vol : List Float) (h : Immersion) (p : SetPoints) (temps charged : List Float) where

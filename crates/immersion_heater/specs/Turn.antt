@@ -17,7 +17,7 @@ use Rattle.heating.specs.Heat.{offersTo}
 use Rattle.heating.specs.FinalTemps.{FinalTemps, calcFinalTemps}
 use Rattle.immersion_heater.specs.declared.turn.Immersion.{Immersion}
 use Rattle.immersion_heater.specs.declared.turn.TurnAnswer.{TurnAnswer}
-use Rattle.immersion_heater.specs.Switch.{switchOn, switchOff}
+use Rattle.heater_switches.specs.Switch.{switchOn, switchOff}
 use Rattle.immersion_heater.specs.Offer.{offer}
 use Rattle.immersion_heater.specs.Supply.{supply}
 
@@ -93,7 +93,7 @@ turnAnswer c u = record {
 }
 
 -- r is the answer for the turn u, which left these layers and these charged losses
-pub record Worked (c : Cylinder) (u : Turned) (r : TurnAnswer) (temps charged : List Float) : Type 0 where
+pub record TurnAnswered (c : Cylinder) (u : Turned) (r : TurnAnswer) (temps charged : List Float) : Type 0 where
   pub answers : r ≡ turnAnswer c u
   pub leaves : temps ≡ u .temps
   pub charges : charged ≡ u .charged

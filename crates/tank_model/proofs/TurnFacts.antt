@@ -16,7 +16,7 @@ use Rattle.cylinder.specs.Layers.{layerVolume, layerVolumes}
 use Rattle.set_points.specs.declared.SetPoints.{SetPoints}
 use Rattle.set_points.specs.declared.SetPoints.the-variants.{Neither, Lower, Upper, Both}
 use Rattle.set_points.specs.SetPoints.{hasUpper, upperOf}
-use Rattle.immersion_heater.specs.Switch.{atOrUnderLower, upperMissingOrReached, switchOn, switchOff}
+use Rattle.heater_switches.specs.Switch.{atOrUnderLower, upperMissingOrReached, switchOn, switchOff}
 use Rattle.heating.specs.Heat.{offersTo, heated}
 use Rattle.thermal_losses.specs.Losses.{surplus, adjusted}
 use Rattle.heating.specs.FinalTemps.{FinalTemps, heatAndMix, adjustedInput, afterMixing, calcFinalTemps}

@@ -1,9 +1,9 @@
--- `switch::is_at_or_under` meets its contract: under, or else narrow-close.
+-- `is_at_or_under` meets its contract: under, or else narrow-close.
 use Rattle.numeric.specs.Close.{narrowClose}
 use Rattle.numeric.proofs.Within.{narrow-finite}
 use borrow.Author.Needs.{needs}
-use Rattle.immersion_heater.proofs.switch.is_at_or_under.Statement.{statement}
-use Rattle.immersion_heater.proofs.switch.is_at_or_under.Tie as tie
+use Rattle.heater_switches.proofs.is_at_or_under.Statement.{statement}
+use Rattle.heater_switches.proofs.is_at_or_under.Tie as tie
 
 returns : tie.Need-returns
 returns c = rw (c .if1 .taken)

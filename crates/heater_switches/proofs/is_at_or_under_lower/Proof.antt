@@ -1,8 +1,8 @@
--- `switch::is_at_or_under_lower` meets its contract, case by case.
-use Rattle.immersion_heater.specs.Switch.{atOrUnderLower}
+-- `is_at_or_under_lower` meets its contract, case by case.
+use Rattle.heater_switches.specs.Switch.{atOrUnderLower}
 use borrow.Author.Needs.{needs}
-use Rattle.immersion_heater.proofs.switch.is_at_or_under_lower.Statement.{statement}
-use Rattle.immersion_heater.proofs.switch.is_at_or_under_lower.Tie as tie
+use Rattle.heater_switches.proofs.is_at_or_under_lower.Statement.{statement}
+use Rattle.heater_switches.proofs.is_at_or_under_lower.Tie as tie
 
 enum-told : tie.Need-enum-told
 enum-told c = search needs

@@ -1,9 +1,9 @@
--- `switch::is_reached` meets its contract: above, or else narrow-close.
+-- `is_reached` meets its contract: above, or else narrow-close.
 use Rattle.numeric.specs.Close.{narrowClose}
 use Rattle.numeric.proofs.Within.{narrow-finite}
 use borrow.Author.Needs.{needs}
-use Rattle.immersion_heater.proofs.switch.is_reached.Statement.{statement}
-use Rattle.immersion_heater.proofs.switch.is_reached.Tie as tie
+use Rattle.heater_switches.proofs.is_reached.Statement.{statement}
+use Rattle.heater_switches.proofs.is_reached.Tie as tie
 
 returns : tie.Need-returns
 returns c = rw (c .if1 .taken)

@@ -7,7 +7,7 @@ use Rattle.numeric.specs.Close.{narrowClose}
 use Rattle.set_points.specs.declared.SetPoints.{SetPoints}
 use Rattle.set_points.specs.declared.SetPoints.the-variants.{Neither, Lower, Upper, Both}
 use Rattle.set_points.specs.SetPoints.{hasUpper, upperOf}
-use Rattle.immersion_heater.specs.Switch.{atOrUnderLower, reached, upperMissingOrReached, switchOn, switchOff}
+use Rattle.heater_switches.specs.Switch.{atOrUnderLower, reached, upperMissingOrReached, switchOn, switchOff}
 
 -- the flag after one that sets it, if s, and then resets it, if r
 abbrev pub latched : Bool → Bool → Bool → Bool

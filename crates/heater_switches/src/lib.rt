@@ -3,7 +3,7 @@ ghost use mathlib.Core.Path.{_≡_};
 ghost use mathlib.Core.Bool.{_||_};
 ghost use lib.Ieee.{lt};
 ghost use Rattle.numeric.specs.Close.{narrowClose};
-ghost use Rattle.immersion_heater.specs.Switch.{atOrUnderLower, reached, switchOn, switchOff};
+ghost use Rattle.heater_switches.specs.Switch.{atOrUnderLower, reached, switchOn, switchOff};
 use set_points::SetPoints;
 
 fn is_at_or_under(t: f64, lower: f64) -> bool
