@@ -6,7 +6,7 @@ use mathlib.Core.List.{List, [], _∷_}
 use lib.ListN.{getD}
 use lib.Ieee.{Float, nan}
 use lib.Ieee.Scale.{finite}
-use Rattle.numeric.specs.Double.{_⊕_}
+use Rattle.numeric.specs.Double.{_⊕_, zero-f}
 use Rattle.numeric.specs.Tabulate.{tabulate}
 use Rattle.mixing.specs.Rearrange.{Mixing, sorted, unsorted, rearrange}
 use Rattle.mixing.specs.Mix.{tempsOf}
@@ -16,6 +16,10 @@ use Rattle.draw_events.specs.declared.Totals.{Totals}
 use Rattle.draw_off.specs.declared.cold.Feed.{Feed}
 use Rattle.draw_off.specs.Draw.{Draw, extract, volumeUsed}
 use Rattle.refill.specs.Refill.{Refill, refill}
+
+-- before the first event nothing is drawn
+abbrev pub noTotals : Totals
+noTotals = record { energy = zero-f; used = zero-f; weighted = zero-f; drawn = zero-f }
 
 -- an event ends in a mixing, or does not
 pub data EventMixing : Type 0 where

@@ -1,4 +1,7 @@
 // The draw events of a step: the draw, the refill, and the mixing of an event that warms the tank from below.
+ghost use mathlib.Core.Path.{_≡_};
+ghost use Rattle.draw_events.specs.Event.{noTotals};
+
 pub mod event;
 pub mod kept;
 
@@ -8,4 +11,16 @@ pub struct Totals {
     pub used: f64,
     pub weighted: f64,
     pub drawn: f64,
+}
+
+// Before the first event nothing is drawn.
+pub fn no_totals() -> Totals
+    ensures { λ r. ⌜ r ≡ noTotals ⌝ }
+{
+    Totals {
+        energy: 0.0,
+        used: 0.0,
+        weighted: 0.0,
+        drawn: 0.0,
+    }
 }

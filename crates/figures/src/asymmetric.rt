@@ -3,7 +3,7 @@
 use crate::answers;
 use crate::print;
 use crate::tanks;
-use heating::SetPoints;
+use set_points::SetPoints;
 use storage_tank::Stepped;
 use tank_model::Heater;
 use tank_model::Setting;

@@ -1,6 +1,6 @@
 // What the figures are run on. Unless a figure says otherwise: density, specific heat and step length 1, standby loss 0, ambient 20, feed 12.
 use draw_events::event::MAX_EVENTS;
-use heating::SetPoints;
+use set_points::SetPoints;
 use storage_tank::Report;
 use tank_model::Heater;
 use tank_model::HeaterLine;

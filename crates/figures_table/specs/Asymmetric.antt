@@ -9,8 +9,8 @@ use lib.ListN.{replicate}
 use lib.Ieee.{Float, nan, neg}
 use Rattle.numeric.specs.Double.{whole, zero-f}
 use Rattle.cylinder.specs.declared.Cylinder.{Cylinder}
-use Rattle.heating.specs.declared.SetPoints.{SetPoints}
-use Rattle.heating.specs.declared.SetPoints.the-variants.{Neither, Lower, Upper, Both}
+use Rattle.set_points.specs.declared.SetPoints.{SetPoints}
+use Rattle.set_points.specs.declared.SetPoints.the-variants.{Neither, Lower, Upper, Both}
 use Rattle.tank_model.specs.declared.Heater.{Heater}
 use Rattle.tank_model.specs.declared.Step.{Step}
 use Rattle.tank_model.specs.Members.{All}

@@ -13,8 +13,8 @@ use Rattle.mixing.specs.Limits.{maxLayers}
 use Rattle.mixing.specs.Mix.{numberOf, roundsOf, mixAnswer, mixLayers}
 use Rattle.cylinder.specs.declared.Cylinder.{Cylinder}
 use Rattle.draw_events.specs.Lent.{maxEvents}
-use Rattle.heating.specs.declared.SetPoints.{SetPoints}
-use Rattle.heating.specs.declared.SetPoints.the-variants.{Lower}
+use Rattle.set_points.specs.declared.SetPoints.{SetPoints}
+use Rattle.set_points.specs.declared.SetPoints.the-variants.{Lower}
 use Rattle.working_order.specs.Order.{maxHeaters}
 use Rattle.tank_model.specs.declared.Heater.{Heater}
 use Rattle.tank_model.specs.declared.TankDesign.{TankDesign}

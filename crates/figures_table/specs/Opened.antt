@@ -14,13 +14,15 @@ use Rattle.mixing.specs.Mix as Mix
 use Rattle.cylinder.specs.Layers as Layers
 use Rattle.draw_off.specs.Cold as Cold
 use Rattle.draw_off.specs.Draw as Draw
+use Rattle.layer_filling.specs.Filling as Filling
 use Rattle.refill.specs.Refill as Refill
 use Rattle.draw_events.specs.Event as Event
-use Rattle.heating.specs.SetPoints as SetPoints
+use Rattle.set_points.specs.SetPoints as SetPoints
+use Rattle.layer_losses.specs.Loss as Loss
+use Rattle.thermal_losses.specs.Losses as Losses
 use Rattle.heating.specs.Heat as Heat
-use Rattle.heating.specs.Losses as Losses
 use Rattle.heating.specs.FinalTemps as FinalTemps
-use Rattle.immersion_heater.specs.Switch as Switch
+use Rattle.heater_switches.specs.Switch as Switch
 use Rattle.immersion_heater.specs.Offer as Offer
 use Rattle.immersion_heater.specs.Supply as Supply
 use Rattle.immersion_heater.specs.Turn as Turn
@@ -40,12 +42,12 @@ unfolding I.round I.ofInt I.ofBits I.add I.sub I.mul I.div I.neg I.lt I.le I.eq 
     Layers.layerVolumes Layers.noVolume Layers.allFinite
     Round.joins Round.member Round.groupTemp Round.pair Round.oneRound Rearrange.isSorted Rearrange.rounds Rearrange.rearrange Mix.mixRefusal
     Cold.cold Draw.givesAll Draw.share Draw.restAfter Draw.drawShare Draw.drawLayer Draw.drawLayers Draw.drawFeed Draw.extract Draw.volumeUsed
-    Refill.takeShare Refill.takeFrom Refill.takeBelow Refill.fromFeed Refill.entersWarmer Refill.fillingOf Refill.refillLayer Refill.refillLayers
+    Filling.takeShare Filling.takeFrom Filling.takeBelow Filling.fromFeed Filling.entersWarmer Refill.fillingOf Refill.refillLayer Refill.refillLayers
     Refill.refill
     Event.eventMixing Event.eventOf Event.tempsAfterEvent Event.totalsAfterEvent Event.eventFinite Event.eventNumber
     SetPoints.hasUpper SetPoints.upperOf Switch.atOrUnderLower Switch.upperMissingOrReached Switch.switchOn Switch.switchOff Heat.offersTo Heat.heated
-    Losses.clearlyAbove Losses.overUpper Losses.standbyCoefficient Losses.warmed Losses.countedTemp Losses.standingLoss Losses.loss Losses.lossAt Losses.losses
-    Losses.limitedTemp Losses.tempsAfter Losses.chargedAfter Losses.surplusTerm Losses.surplus Losses.adjusted
+    Loss.clearlyAbove Loss.overUpper Loss.standbyCoefficient Loss.countedTemp Loss.standingLoss Loss.loss Loss.limitedTemp Loss.surplusTerm
+    Losses.warmed Losses.lossAt Losses.losses Losses.tempsAfter Losses.chargedAfter Losses.surplus Losses.adjusted
     FinalTemps.heatAndMix FinalTemps.adjustedInput FinalTemps.afterMixing FinalTemps.calcFinalTemps Offer.offer
     Supply.demand Supply.supply Turn.afterHeat Turn.turn Turn.turnFinite Turn.turnNumber
     Fixed.placedHeaters Sorting.insert Sorting.insertionSort Sorting.risingOrder Order.workingOrder FirstRefusal.firstRefusal Checks.pointsCheck

@@ -8,7 +8,7 @@ use lib.ListN.{replicate}
 use lib.Ieee.{Float, binary64, nan, round, ofBits}
 use Rattle.numeric.specs.Double.{dbl, whole, zero-f}
 use Rattle.cylinder.specs.declared.Cylinder.{Cylinder}
-use Rattle.heating.specs.declared.SetPoints.the-variants.{Neither, Both}
+use Rattle.set_points.specs.declared.SetPoints.the-variants.{Neither, Both}
 use Rattle.tank_model.specs.declared.Heater.{Heater}
 use Rattle.tank_model.specs.declared.Step.{Step}
 use Rattle.tank_model.specs.declared.HeaterLine.{HeaterLine}

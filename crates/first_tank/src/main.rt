@@ -5,9 +5,9 @@
 mod print;
 
 use draw_events::event::MAX_EVENTS;
-use heating::SetPoints;
 use job_reader::reader::read_at;
 use libc::STDIN_FILENO;
+use set_points::SetPoints;
 use storage_tank::Report;
 use storage_tank::StorageTank;
 use tank_model::Heater;

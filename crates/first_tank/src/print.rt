@@ -1,11 +1,11 @@
 // What the calls answer, in words and numbers, a line for each call and one for its layers.
 use draw_events::event::MAX_EVENTS;
-use heating::SetPoints;
 use job_records::Reading;
 use job_records::Record;
 use libc::STDOUT_FILENO;
 use mixing::MixAnswer;
 use mixing::limits::MAX_LAYERS;
+use set_points::SetPoints;
 use storage_tank::Made;
 use storage_tank::Stepped;
 use tank_model::HeaterLine;

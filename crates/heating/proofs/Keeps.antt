@@ -9,9 +9,10 @@ use Rattle.mixing.specs.Mix.{tempsOf}
 use Rattle.mixing.proofs.Keeps.{rearrange-keeps}
 use Rattle.cylinder.specs.declared.Cylinder.{Cylinder}
 use Rattle.cylinder.specs.Layers.{heatCapacity}
-use Rattle.heating.specs.declared.SetPoints.{SetPoints}
+use Rattle.set_points.specs.declared.SetPoints.{SetPoints}
 use Rattle.heating.specs.Heat.{heated}
-use Rattle.heating.specs.Losses.{limitedTemp, warmed, lossAt, tempsAfter}
+use Rattle.layer_losses.specs.Loss.{limitedTemp}
+use Rattle.thermal_losses.specs.Losses.{warmed, lossAt, tempsAfter}
 use Rattle.heating.specs.FinalTemps.{heatAndMix, afterMixing, calcFinalTemps}
 
 heated-keeps : (c : Cylinder) (vol : List Float) (given : ℕ → Float) (temps : List Float) → Keeps (c .layers) temps (heated c vol given temps)

@@ -1,5 +1,4 @@
 -- The laws of `heating` and the lemmas that its proofs share.
-pub mod Layer
 pub mod Mixed
 pub mod Keeps
 pub mod Offers

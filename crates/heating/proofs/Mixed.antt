@@ -9,7 +9,7 @@ use Rattle.mixing.specs.declared.MixAnswer.the-variants.{Mixed, Refused}
 use Rattle.mixing.specs.Rearrange.{Mixing, sorted, unsorted, rearrange}
 use Rattle.mixing.specs.Mix.{answerOf, tempsOf}
 use Rattle.cylinder.specs.declared.Cylinder.{Cylinder}
-use Rattle.heating.specs.declared.SetPoints.{SetPoints}
+use Rattle.set_points.specs.declared.SetPoints.{SetPoints}
 use Rattle.heating.specs.Heat.{heated}
 use Rattle.heating.specs.FinalTemps.{heatAndMix, afterMixing, calcFinalTemps}
 

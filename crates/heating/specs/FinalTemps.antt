@@ -6,11 +6,11 @@ use lib.Ieee.{Float, nan}
 use Rattle.mixing.specs.Rearrange.{Mixing, sorted, unsorted, rearrange}
 use Rattle.mixing.specs.Mix.{mixingNumber, mixingRounds}
 use Rattle.cylinder.specs.declared.Cylinder.{Cylinder}
-use Rattle.heating.specs.declared.SetPoints.{SetPoints}
+use Rattle.set_points.specs.declared.SetPoints.{SetPoints}
 use Rattle.heating.specs.declared.final_temps.FinalTempsAnswer.{FinalTempsAnswer}
 use Rattle.heating.specs.Heat.{inputOf, heated}
-use Rattle.heating.specs.Losses as Losses
-use Rattle.heating.specs.Losses.{adjusted}
+use Rattle.thermal_losses.specs.Losses as Losses
+use Rattle.thermal_losses.specs.Losses.{adjusted}
 
 -- what the heat came to: the mixing, and what follows one that is not refused: the layers, what they are charged with, the adjusted input, and the losses
 pub record FinalTemps : Type 0 where

@@ -1,5 +1,3 @@
--- The definitions of `heating`: a heater's upper set point, heat, losses and limit, and `calc_final_temps` (01, Heat; Losses and limit).
-pub mod SetPoints
+-- The definitions of `heating`: heat, and `calc_final_temps` (01, Heat; Losses and limit).
 pub mod Heat
-pub mod Losses
 pub mod FinalTemps

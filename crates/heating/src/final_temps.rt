@@ -4,10 +4,10 @@ ghost use Prim.Native.Nat.{_≤_, _<_};
 ghost use Rattle.mixing.specs.Limits.{maxLayers};
 ghost use Rattle.heating.specs.Heat.{offersTo};
 ghost use Rattle.heating.specs.FinalTemps.{calcFinalTemps, Calculated};
-use crate::SetPoints;
 use cylinder::Cylinder;
 use mixing::MixAnswer;
 use mixing::limits::MAX_LAYERS;
+use set_points::SetPoints;
 
 // What the heat came to: 9 where the mixing is out of order, else 0; its rounds, the adjusted input and the losses.
 pub struct FinalTempsAnswer {
@@ -38,7 +38,7 @@ pub fn calc_final_temps(
     match mixing {
         MixAnswer::Mixed(rounds) => {
             let input = crate::heat::energy_input(c.layers, layer, offer);
-            let done = crate::losses::calc_temps_after_thermal_losses(
+            let done = thermal_losses::calc_temps_after_thermal_losses(
                 c,
                 vol,
                 p,

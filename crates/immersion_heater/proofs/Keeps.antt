@@ -5,10 +5,10 @@ use lib.ListN.{getD}
 use lib.Ieee.{Float, nan}
 use Rattle.numeric.specs.Places.{Keeps}
 use Rattle.cylinder.specs.declared.Cylinder.{Cylinder}
-use Rattle.heating.specs.declared.SetPoints.{SetPoints}
+use Rattle.set_points.specs.declared.SetPoints.{SetPoints}
 use Rattle.heating.proofs.Keeps.{final-temps-keep}
 use Rattle.immersion_heater.specs.declared.turn.Immersion.{Immersion}
-use Rattle.immersion_heater.specs.Switch.{switchOn}
+use Rattle.heater_switches.specs.Switch.{switchOn}
 use Rattle.immersion_heater.specs.Turn.{offers, afterHeat, turn}
 
 module _ (c : Cylinder) (vol : List Float) (h : Immersion) (p : SetPoints) (temps charged : List Float) where

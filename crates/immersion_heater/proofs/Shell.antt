@@ -10,16 +10,16 @@ use Rattle.mixing.specs.Rearrange.{Mixing, sorted, unsorted}
 use Rattle.mixing.specs.Mix.{mixingNumber}
 use Rattle.cylinder.specs.declared.Cylinder.{Cylinder}
 use Rattle.cylinder.specs.Layers.{allFinite}
-use Rattle.heating.specs.declared.SetPoints.{SetPoints}
+use Rattle.set_points.specs.declared.SetPoints.{SetPoints}
 use Rattle.heating.specs.declared.final_temps.FinalTempsAnswer.{FinalTempsAnswer}
 use Rattle.heating.specs.Heat.{offersTo}
 use Rattle.heating.specs.FinalTemps.{FinalTemps, calcFinalTemps, finalTempsAnswer, Calculated}
 use Rattle.immersion_heater.specs.declared.turn.Immersion.{Immersion}
 use Rattle.immersion_heater.specs.declared.turn.TurnAnswer.{TurnAnswer}
-use Rattle.immersion_heater.specs.Switch.{switchOn, switchOff}
+use Rattle.heater_switches.specs.Switch.{switchOn, switchOff}
 use Rattle.immersion_heater.specs.Offer.{offer}
 use Rattle.immersion_heater.specs.Supply.{supply}
-use Rattle.immersion_heater.specs.Turn.{maxEnergy, afterHeat, turn, turnFinite, turnNumber, turnAnswer, Worked}
+use Rattle.immersion_heater.specs.Turn.{maxEnergy, afterHeat, turn, turnFinite, turnNumber, turnAnswer, TurnAnswered}
 
 module _ (c : Cylinder) (h : Immersion) (p : SetPoints) (on : Bool) where
   -- what the code answers where `calc_final_temps` answered r and is refused
@@ -56,7 +56,7 @@ module _ (c : Cylinder) (h : Immersion) (p : SetPoints) (on : Bool) where
   passed-case unsorted temps charged adjusted losses n = absurd (omega arith)
 
   module _ (f : FinalTemps) (r : FinalTempsAnswer) (temps charged : List Float) (w : Calculated f r temps charged) where
-    pub refused-worked : (r .number ≡ 0 → ⊥) → Worked c (afterHeat c h p on f) (refusedAnswer r) temps charged
+    pub refused-worked : (r .number ≡ 0 → ⊥) → TurnAnswered c (afterHeat c h p on f) (refusedAnswer r) temps charged
     unfolding afterHeat
     refused-worked n = record {
       answers = ap refusedAnswer (w .answers) ∙ refused-case (f .mixing) (f .temps) (f .charged) (f .adjusted) (f .losses) (λ z. n (ap (λ (y : FinalTempsAnswer). y .number) (w .answers) ∙ z));
@@ -64,7 +64,7 @@ module _ (c : Cylinder) (h : Immersion) (p : SetPoints) (on : Bool) where
       charges = w .charges;
     }
 
-    pub passed-worked : r .number ≡ 0 → Worked c (afterHeat c h p on f) (passedAnswer r temps) temps charged
+    pub passed-worked : r .number ≡ 0 → TurnAnswered c (afterHeat c h p on f) (passedAnswer r temps) temps charged
     unfolding afterHeat
     passed-worked z = record {
       answers = ap (λ (y : FinalTempsAnswer). passedAnswer y temps) (w .answers) ∙ ap (λ (ts : List Float). passedAnswer (finalTempsAnswer f) ts) (w .leaves)

@@ -1,7 +1,5 @@
--- The definitions of `immersion_heater`: the two switches, the offer, the supply, and one turn (01, Switch-on to Turn).
-pub mod Switch
+-- The definitions of `immersion_heater`: the offer, the supply, and one turn (01, Heat; Supply and switch-off; Turn).
 pub mod Offer
 pub mod Supply
 pub mod Turn
-pub mod SwitchLaws
 pub mod SupplyLaws

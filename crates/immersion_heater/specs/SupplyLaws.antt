@@ -14,7 +14,7 @@ use Rattle.numeric.specs.Tabulate.{tabulate}
 use Rattle.numeric.specs.Sum2.{nothing-added, accumulate, accumulateAll, sum2}
 use Rattle.numeric.specs.Products.{min-le-second, product-number, product-zero}
 use Rattle.heating.specs.Heat.{offersTo, inputOf}
-use Rattle.heating.specs.Losses.{adjusted}
+use Rattle.thermal_losses.specs.Losses.{adjusted}
 use Rattle.immersion_heater.specs.Offer.{offer}
 use Rattle.immersion_heater.specs.Supply.{demand, supply}
 

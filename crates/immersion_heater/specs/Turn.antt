@@ -12,12 +12,12 @@ use Rattle.mixing.specs.Rearrange.{Mixing, sorted, unsorted}
 use Rattle.mixing.specs.Mix.{mixingRounds}
 use Rattle.cylinder.specs.declared.Cylinder.{Cylinder}
 use Rattle.cylinder.specs.Layers.{allFinite}
-use Rattle.heating.specs.declared.SetPoints.{SetPoints}
+use Rattle.set_points.specs.declared.SetPoints.{SetPoints}
 use Rattle.heating.specs.Heat.{offersTo}
 use Rattle.heating.specs.FinalTemps.{FinalTemps, calcFinalTemps}
 use Rattle.immersion_heater.specs.declared.turn.Immersion.{Immersion}
 use Rattle.immersion_heater.specs.declared.turn.TurnAnswer.{TurnAnswer}
-use Rattle.immersion_heater.specs.Switch.{switchOn, switchOff}
+use Rattle.heater_switches.specs.Switch.{switchOn, switchOff}
 use Rattle.immersion_heater.specs.Offer.{offer}
 use Rattle.immersion_heater.specs.Supply.{supply}
 
@@ -93,7 +93,7 @@ turnAnswer c u = record {
 }
 
 -- r is the answer for the turn u, which left these layers and these charged losses
-pub record Worked (c : Cylinder) (u : Turned) (r : TurnAnswer) (temps charged : List Float) : Type 0 where
+pub record TurnAnswered (c : Cylinder) (u : Turned) (r : TurnAnswer) (temps charged : List Float) : Type 0 where
   pub answers : r ≡ turnAnswer c u
   pub leaves : temps ≡ u .temps
   pub charges : charged ≡ u .charged

@@ -5,10 +5,10 @@ ghost use Prim.Native.Nat.{_≤_, _<_};
 ghost use lib.Ieee.Scale.{finite};
 ghost use Rattle.mixing.specs.Limits.{maxLayers};
 ghost use Rattle.cylinder.specs.Layers.{allFinite};
-ghost use Rattle.immersion_heater.specs.Turn.{turn, Worked};
+ghost use Rattle.immersion_heater.specs.Turn.{turn, TurnAnswered};
 use cylinder::Cylinder;
-use heating::SetPoints;
 use mixing::limits::MAX_LAYERS;
+use set_points::SetPoints;
 
 // An immersion heater in a cylinder: its rated power (kW), its layer and its thermostat's.
 pub struct Immersion {
@@ -69,13 +69,13 @@ pub fn turn(
     charged: &mut [f64; MAX_LAYERS],
 ) -> TurnAnswer
     requires { ⌜ (h .layer < c .layers) × (h .thermostat < c .layers) × (c .layers ≤ maxLayers) ⌝ }
-    ensures { λ r. ⌜ Worked c (turn c (now (vol .entry)) h p (now (temps .entry)) (now (charged .entry)) flag)
+    ensures { λ r. ⌜ TurnAnswered c (turn c (now (vol .entry)) h p (now (temps .entry)) (now (charged .entry)) flag)
         r (now (temps .exit)) (now (charged .exit)) ⌝ }
 {
     let thermostat = h.thermostat;
     let energy = h.rated * c.timestep;
     let start = temps[thermostat];
-    let on = crate::switch::determine_heat_source_switch_on(p, start, flag);
+    let on = heater_switches::determine_heat_source_switch_on(p, start, flag);
     let offer = crate::offer::potential_energy_input(on, energy);
     let done = heating::final_temps::calc_final_temps(c, vol, p, h.layer, offer, temps, charged);
     let input_energy_adj = done.adjusted;
@@ -93,7 +93,7 @@ pub fn turn(
     }
     let supplied = crate::supply::demand_energy(input_energy_adj, energy);
     let finish = temps[thermostat];
-    let off = crate::switch::determine_heat_source_switch_off(p, finish, on);
+    let off = heater_switches::determine_heat_source_switch_off(p, finish, on);
     let finite = is_turn_finite(c.layers, temps, input_energy_adj, supplied, losses);
     TurnAnswer {
         number: number_of(finite),

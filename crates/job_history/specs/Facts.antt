@@ -4,7 +4,7 @@ use mathlib.Core.List.{List, [], _∷_}
 use lib.ListN.{length, replicate}
 use Rattle.numeric.specs.Double.{zero-f}
 use Rattle.numeric.specs.Copy.{copied}
-use Rattle.heating.specs.declared.SetPoints.the-variants.{Neither}
+use Rattle.set_points.specs.declared.SetPoints.the-variants.{Neither}
 use Rattle.working_order.specs.Order.{maxHeaters}
 use Rattle.tank_model.specs.declared.Step.{Step}
 use Rattle.tank_model.specs.Work.{Turn, Work, work}

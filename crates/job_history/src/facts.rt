@@ -12,7 +12,7 @@ ghost use Rattle.job_history.specs.Lent.{factBy, factsIn, NotedTurns};
 use crate::ToldStep;
 use crate::TurnFact;
 use crate::Turns;
-use heating::SetPoints;
+use set_points::SetPoints;
 use storage_tank::Report;
 use storage_tank::StorageTank;
 use tank_arrays::arrays::THREE_EACH;

@@ -3,7 +3,7 @@ pub mod facts;
 pub mod lines;
 pub mod record;
 
-use heating::SetPoints;
+use set_points::SetPoints;
 use storage_tank::Stepped;
 use working_order::MAX_HEATERS;
 

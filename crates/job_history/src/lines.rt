@@ -8,10 +8,10 @@ ghost use Rattle.job_lines.specs.Lengths.{maxText};
 ghost use Rattle.job_history.specs.Lines.{missingText, pointsText, courseText, outcomeText, turnLine, turnLines, historyLines};
 use crate::TurnFact;
 use crate::Turns;
-use heating::SetPoints;
 use job_lines::text::put_byte;
 use job_lines::text::put_double;
 use job_lines::text::put_number;
+use set_points::SetPoints;
 use working_order::MAX_HEATERS;
 
 // A space and a hyphen.

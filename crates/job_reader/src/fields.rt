@@ -7,8 +7,8 @@ ghost use Rattle.draw_events.specs.Lent.{maxEvents};
 ghost use Rattle.working_order.specs.Order.{maxHeaters};
 ghost use Rattle.job_records.specs.Fields.{volumesAt, isPresenceAt, pointsAt, settingsAt};
 use draw_events::event::MAX_EVENTS;
-use heating::SetPoints;
 use job_records::bytes::f64_at;
+use set_points::SetPoints;
 use tank_model::Setting;
 use working_order::MAX_HEATERS;
 

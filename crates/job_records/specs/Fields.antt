@@ -8,8 +8,8 @@ use lib.Ieee.{Float}
 use Rattle.numeric.specs.Double.{zero-f}
 use Rattle.numeric.specs.Tabulate.{tabulate}
 use Rattle.draw_events.specs.Lent.{maxEvents}
-use Rattle.heating.specs.declared.SetPoints.{SetPoints}
-use Rattle.heating.specs.declared.SetPoints.the-variants.{Neither, Lower, Upper, Both}
+use Rattle.set_points.specs.declared.SetPoints.{SetPoints}
+use Rattle.set_points.specs.declared.SetPoints.the-variants.{Neither, Lower, Upper, Both}
 use Rattle.working_order.specs.Order.{maxHeaters}
 use Rattle.tank_model.specs.declared.Setting.{Setting}
 use Rattle.tank_model.specs.Checks.{noSetting}

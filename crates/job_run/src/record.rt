@@ -52,7 +52,7 @@ pub fn add_heater(buf: &mut [u8], j: Job, next: usize, h: Heater) -> Printed
     ensures { λ r. ⌜ Gives (heaterOutcome j next h) (now (buf .entry)) (now (buf .exit)) r ⌝ }
 {
     let d = j.design;
-    let number = tank_arrays::checks::heaters_check(d.heaters, 1);
+    let number = tank_refusals::checks::heaters_check(d.heaters, 1);
     if number != 0 {
         return refuse(buf, j, number);
     }

@@ -23,7 +23,7 @@ fn no_report() -> Report
         used: 0.0,
         average: 0.0,
         recoverable: 0.0,
-        lines: [tank_model::zero_line(); MAX_HEATERS],
+        lines: [tank_arrays::heaters::zero_line(); MAX_HEATERS],
     }
 }
 
@@ -41,7 +41,7 @@ pub fn design_of(t: TankRecord) -> TankDesign
         ambient: t.ambient,
         timestep: t.timestep,
         heaters: 0,
-        fitted: [tank_model::zero_heater(); MAX_HEATERS],
+        fitted: [tank_arrays::heaters::zero_heater(); MAX_HEATERS],
     }
 }
 

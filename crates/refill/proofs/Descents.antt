@@ -7,7 +7,8 @@ use lib.Ieee.{Float}
 use Rattle.numeric.specs.Descent.{descend}
 use Rattle.cylinder.specs.Layers.{noVolume}
 use Rattle.draw_off.specs.declared.cold.Feed.{Feed}
-use Rattle.refill.specs.Refill.{Filling, Refill, takeFrom, takeBelow, lackOf, refillLayer, refillLayers}
+use Rattle.layer_filling.specs.Filling.{Filling, takeFrom, takeBelow}
+use Rattle.refill.specs.Refill.{Refill, lackOf, refillLayer, refillLayers}
 
 -- the lack is closed, whatever the donor
 abbrev pub lackNone : ℕ → Filling → Bool

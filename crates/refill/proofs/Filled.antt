@@ -9,9 +9,11 @@ use Rattle.numeric.specs.Double.{_⊖_, _⊘_}
 use Rattle.numeric.specs.Descent.{descend}
 use Rattle.cylinder.specs.Layers.{noVolume}
 use Rattle.draw_off.specs.declared.cold.Feed.{Feed}
-use Rattle.refill.specs.declared.filling.LayerFilling.{LayerFilling}
-use Rattle.refill.specs.Refill.{takeFrom, takeBelow, fromFeed, entersWarmer, fillingOf, refillLayer}
-use Rattle.refill.specs.Lent.{fillingWith, startFilling, refillOf}
+use Rattle.layer_filling.specs.declared.LayerFilling.{LayerFilling}
+use Rattle.layer_filling.specs.Filling.{takeFrom, takeBelow, fromFeed, entersWarmer}
+use Rattle.refill.specs.Refill.{fillingOf, refillLayer}
+use Rattle.layer_filling.specs.Lent.{fillingWith, startFilling}
+use Rattle.refill.specs.Lent.{refillOf}
 use Rattle.refill.proofs.Descents.{lackNone, donors-descend}
 
 -- what the test of the filling's lack, as it starts, says of the layer

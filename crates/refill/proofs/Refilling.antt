@@ -11,7 +11,8 @@ use lib.Ieee.{Float, nan}
 use Rattle.numeric.specs.Descent.{Descent, descent-next}
 use Rattle.cylinder.specs.Layers.{noVolume}
 use Rattle.draw_off.specs.declared.cold.Feed.{Feed}
-use Rattle.refill.specs.Refill.{Filling, Refill, takeShare, takeFrom, takeBelow, fromFeed, entersWarmer, lackOf, fillingOf, refillLayer}
+use Rattle.layer_filling.specs.Filling.{Filling, takeShare, takeFrom, takeBelow, fromFeed, entersWarmer}
+use Rattle.refill.specs.Refill.{Refill, lackOf, fillingOf, refillLayer}
 use Rattle.refill.specs.Lent.{refillOf}
 use Rattle.refill.proofs.Descents.{lacksNone}
 use Rattle.draw_off.proofs.Untouched.{SameBelow}

@@ -15,10 +15,11 @@ use Rattle.numeric.specs.Close.{wideClose, close}
 use Rattle.numeric.proofs.Difference.{minus-self}
 use Rattle.cylinder.specs.Layers.{noVolume}
 use Rattle.draw_off.specs.declared.cold.Feed.{Feed}
-use Rattle.refill.specs.declared.repeats.KeptFilling.{KeptFilling}
-use Rattle.refill.specs.Refill.{Filling, takeShare, takeFrom, takeBelow, fromFeed, entersWarmer, lackOf, fillingOf, refillLayer}
+use Rattle.repeating_layers.specs.declared.KeptFilling.{KeptFilling}
+use Rattle.layer_filling.specs.Filling.{Filling, takeShare, takeFrom, takeBelow, fromFeed, entersWarmer}
+use Rattle.refill.specs.Refill.{lackOf, fillingOf, refillLayer}
 use Rattle.refill.specs.Lent.{refillOf}
-use Rattle.refill.specs.Repeats.{RepeatsAt, OverFull}
+use Rattle.repeating_layers.specs.Repeats.{RepeatsAt, OverFull}
 
 -- a lack that is some, and less than another, is finite
 lack-finite : (x y : Float) → noVolume x ≡ false → lt x y ≡ true → finite x ≡ true
@@ -82,11 +83,6 @@ module _ (vol : List Float) (feed : Feed) (before : List Float) where
     layer-next temps mixes = rw (filling-next, or-false mixes)
 
 -- ---- a layer that repeats, over a full one
-pub over-full : (vol held : List Float) (i : ℕ) (kept : KeptFilling) → RepeatsAt vol held i kept → (i ≡ 0 → ⊥) → (lt zero-f (kept .full) ≡ true → getD vol (i - 1) nan ≡ kept .full) → (lt zero-f (kept .full) ≡ true → getD held (i - 1) nan ≡ kept .full) → OverFull vol held i kept
-over-full vol held i kept upper there alike full =
-    let above : lt zero-f (kept .full) ≡ true = rw (upper .volume) (upper .repeats .above) in
-    record { upper = upper; there = omega (arith, there); alike = alike above ∙ upper .volume; full = full above ∙ upper .volume }
-
 module _ (vol held : List Float) (i : ℕ) (kept : KeptFilling) (o : OverFull vol held i kept) where
   -- what it and the layer below it then hold
   abbrev heldAfter : List Float

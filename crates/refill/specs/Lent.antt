@@ -1,18 +1,8 @@
--- States how the code holds a refill (01, Refill): the layers in lent arrays, the numbers beside them in a small struct.
+-- States how the code holds a refill (01, Refill): the layers in lent arrays, and a flag.
 use mathlib.Core.Bool.{Bool}
 use mathlib.Core.List.{List}
 use lib.Ieee.{Float}
-use Rattle.numeric.specs.Double.{_⊖_, _⊛_}
-use Rattle.refill.specs.declared.filling.LayerFilling.{LayerFilling}
-use Rattle.refill.specs.Refill.{Filling, Refill}
-
--- the filling of a layer: what the layers still hold, and its numbers
-abbrev pub fillingWith : List Float → LayerFilling → Filling
-fillingWith held f = record { held = held; lack = f .lack; volume = f .volume; weighted = f .weighted; coldest = f .coldest }
-
--- a layer that takes `full` still holds `held` at temperature t
-abbrev pub startFilling : Float → Float → Float → LayerFilling
-startFilling full held t = record { lack = full ⊖ held; volume = held; weighted = held ⊛ t; coldest = t }
+use Rattle.refill.specs.Refill.{Refill}
 
 abbrev pub refillOf : List Float → List Float → Bool → Refill
 refillOf held temps mixes = record { held = held; temps = temps; mixes = mixes }

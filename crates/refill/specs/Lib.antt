@@ -1,4 +1,3 @@
 -- The definitions of the refill.
 pub mod Refill
 pub mod Lent
-pub mod Repeats

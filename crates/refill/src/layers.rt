@@ -20,18 +20,18 @@ pub fn calc_temps_after_extraction(
         ≡ refill n (now (vol .entry)) feed (now (temps .entry)) (now (held .entry)) ⌝ }
 {
     let mut mixes = false;
-    let mut kept = crate::repeats::keep_filling(n, vol, held);
+    let mut kept = repeating_layers::keep_filling(n, vol, held);
     let mut i = n;
     'filling: while 0 < i {
         i -= 1;
         // The layer takes from the one below it just what was taken from itself.
-        if crate::repeats::is_over_full(i, kept, vol, held) {
+        if repeating_layers::is_over_full(i, kept, vol, held) {
             temps[i] = (kept.held * temps[i] + kept.lack * temps[i - 1]) / kept.after;
             held[i - 1] = kept.held;
             held[i] = kept.after;
             continue 'filling;
         }
-        let mut f = crate::filling::start_filling(vol[i], held[i], temps[i]);
+        let mut f = layer_filling::start_filling(vol[i], held[i], temps[i]);
         if cylinder::is_no_volume(f.lack) {
             break 'filling;
         }
@@ -41,15 +41,15 @@ pub fn calc_temps_after_extraction(
             if cylinder::is_no_volume(f.lack) {
                 break 'donors;
             }
-            f = crate::filling::take_from(j, f, temps, held);
+            f = layer_filling::take_from(j, f, temps, held);
         }
-        if crate::filling::does_enter_warmer(feed, f) {
+        if layer_filling::does_enter_warmer(feed, f) {
             mixes = true;
         }
-        f = crate::filling::take_from_feed(feed, f);
+        f = layer_filling::take_from_feed(feed, f);
         temps[i] = f.weighted / f.volume;
         held[i] = f.volume;
-        kept = crate::repeats::keep_filling(i, vol, held);
+        kept = repeating_layers::keep_filling(i, vol, held);
     }
     mixes
 }

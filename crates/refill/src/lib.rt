@@ -1,4 +1,2 @@
 // `calc_temps_after_extraction`: the layers take water again, from those below them and from the feed.
-pub mod filling;
 pub mod layers;
-pub mod repeats;

@@ -15,8 +15,8 @@ use Rattle.numeric.specs.Holds.{holds, holds-split, holds-same, at-holds}
 use Rattle.numeric.specs.Products.{le-self}
 use Rattle.mixing.specs.Round.{fill}
 use Rattle.mixing.specs.Rearrange.{rises}
-use Rattle.running_group.specs.Running.{layerBelow}
-use Rattle.running_group.proofs.Fill.{fill-inside, fill-outside}
+use Rattle.layer_joining.specs.Running.{layerBelow}
+use Rattle.layer_joining.proofs.Fill.{fill-inside, fill-outside}
 
 finite-number : (x : Float) → T (finite x) → T (not (isNan x))
 unfolding isNan

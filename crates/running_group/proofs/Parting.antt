@@ -20,12 +20,13 @@ use Rattle.numeric.specs.Sum2.{nothing-added, accumulate, addAt}
 use Rattle.numeric.proofs.Finite.{sum-parts-finite}
 use Rattle.mixing.specs.Round.{Walk, joins, pair, oneRound}
 use Rattle.mixing.specs.Rearrange.{rises, isSorted}
-use Rattle.running_group.specs.Running.{HeatFinite, SaysJoins, layerBelow, Started, Ended, AsDefined, Follows}
-use Rattle.running_group.specs.declared.RunningGroup.{RunningGroup}
-use Rattle.running_group.proofs.Fill.{fill-outside, fill-own}
-use Rattle.running_group.proofs.Members.{layer-there}
+use Rattle.layer_joining.specs.Running.{HeatFinite, SaysJoins, layerBelow, AsDefined, Follows}
+use Rattle.running_group.specs.Rounds.{Started, Ended}
+use Rattle.layer_joining.specs.declared.RunningGroup.{RunningGroup}
+use Rattle.layer_joining.proofs.Fill.{fill-outside, fill-own}
+use Rattle.layer_joining.proofs.Members.{layer-there}
 use Rattle.running_group.proofs.InOrder.{group-order}
-use Rattle.running_group.proofs.Written.{written, written-lower, written-upper, written-finite, lower-finite, upper-finite, walk-more, passed-more}
+use Rattle.layer_joining.proofs.Written.{written, written-lower, written-upper, written-finite, lower-finite, upper-finite, walk-more, passed-more}
 
 -- ---- a group of one layer
 one-sum : (g : ℕ → Float) (i : ℕ) → iterate (addAt g) (i + 1 - i) i nothing-added ≡ accumulate nothing-added (g i)

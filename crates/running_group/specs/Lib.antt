@@ -1,2 +1,2 @@
--- What the code keeps of a round, and what its functions' contracts say by it.
-pub mod Running
+-- What the contracts of the functions that work a round say (01, Mix).
+pub mod Rounds

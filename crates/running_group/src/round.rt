@@ -5,8 +5,9 @@ ghost use Prim.Native.Nat.{_+_, _≤_, _<_};
 ghost use lib.Ieee.{le};
 ghost use Rattle.mixing.specs.Limits.{maxLayers};
 ghost use Rattle.mixing.specs.Round.{fill};
-ghost use Rattle.running_group.specs.Running.{SaysJoins, Started, Ended, PairFollows, RoundLeaves};
-use crate::RunningGroup;
+ghost use Rattle.layer_joining.specs.Running.{SaysJoins};
+ghost use Rattle.running_group.specs.Rounds.{Started, Ended, PairFollows, RoundLeaves};
+use layer_joining::RunningGroup;
 use mixing::limits::MAX_LAYERS;
 
 // Whether every product met was finite, and if so whether the layers are in order after the round.
@@ -84,7 +85,7 @@ fn run_pair(
     let next = temps[i + 1];
     let v = vol[i + 1];
     if does_join_finite(r.temp, next) {
-        return crate::join::join(r, vol, i, v, next);
+        return layer_joining::join(r, vol, i, v, next);
     }
     end_group(r.bottom, i + 1, r.temp, temps);
     let sorted = is_still_sorted(r.sorted, r.below, r.temp);

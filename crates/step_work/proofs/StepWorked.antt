@@ -14,7 +14,7 @@ use Rattle.cylinder.specs.declared.Cylinder.{Cylinder}
 use Rattle.draw_off.specs.declared.cold.Feed.{Feed}
 use Rattle.draw_events.specs.declared.event.EventAnswer.{EventAnswer}
 use Rattle.draw_events.specs.Lent.{drawingOf}
-use Rattle.draw_events.specs.Event.{Event, Drawing, eventOf, tempsAfterEvent, totalsAfterEvent, eventNumber, drawAll}
+use Rattle.draw_events.specs.Event.{noTotals, Event, Drawing, eventOf, tempsAfterEvent, totalsAfterEvent, eventNumber, drawAll}
 use Rattle.working_order.specs.Order.{maxHeaters, threeEach}
 use Rattle.tank_model.specs.declared.Step.{Step}
 use Rattle.tank_model.specs.Fixed.{Fixed, State}
@@ -26,7 +26,7 @@ use Rattle.tank_arrays.specs.Arrays.{twoEach, ZeroLines}
 use Rattle.tank_arrays.proofs.LentArrays.{zero-lines}
 use Rattle.step_work.specs.declared.turns.TurnsAnswer.{TurnsAnswer}
 use Rattle.step_work.specs.declared.work.WorkAnswer.{WorkAnswer}
-use Rattle.step_work.specs.Lent.{heatingIn, noTurns, Notes, notesIn, noNotes, withTurns, TurnsEnd, turnsBy, noTotals, TurnsWorked, StepWorked}
+use Rattle.step_work.specs.Lent.{heatingIn, noTurns, Notes, notesIn, noNotes, withTurns, TurnsEnd, turnsBy, TurnsWorked, StepWorked}
 
 -- ---- the events in a row, as `draw_events` works them, are the run of the events
 

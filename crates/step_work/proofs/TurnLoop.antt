@@ -9,7 +9,7 @@ use lib.ListN.{getD, length, take, length-take, drop-of-length-le}
 use lib.Seq.{slice, slice-cons}
 use lib.Ieee.{Float}
 use Rattle.cylinder.specs.declared.Cylinder.{Cylinder}
-use Rattle.heating.specs.declared.SetPoints.{SetPoints}
+use Rattle.set_points.specs.declared.SetPoints.{SetPoints}
 use Rattle.immersion_heater.specs.Turn.{turnNumber}
 use Rattle.tank_model.specs.declared.Heater.{Heater}
 use Rattle.tank_model.specs.Fixed.{Placed, immersed, Fixed, noHeater, placedHeaters}

@@ -10,7 +10,7 @@ use Rattle.numeric.specs.Double.{zero-f}
 use Rattle.mixing.specs.Limits.{maxLayers}
 use Rattle.cylinder.specs.declared.Cylinder.{Cylinder}
 use Rattle.draw_events.specs.declared.Totals.{Totals}
-use Rattle.heating.specs.declared.SetPoints.{SetPoints}
+use Rattle.set_points.specs.declared.SetPoints.{SetPoints}
 use Rattle.immersion_heater.specs.declared.turn.Immersion.{Immersion}
 use Rattle.immersion_heater.specs.Turn.{turn, turnNumber}
 use Rattle.working_order.specs.Order.{maxHeaters}
@@ -125,10 +125,6 @@ turnsBy n x r = record { end = r .end; worked = n + length (r .parts); notes = w
 abbrev pub TurnsWorked : Fixed → List Setting → List ℕ → Heating → Notes → TurnsAnswer → Heating → Notes → Type 0
 TurnsWorked f settings hs s x r s' x' =
     turnsBy 0 x (run (workTurn f (pointsIn settings)) hs s) ≡ record { end = endBy (r .number) s'; worked = r .worked; notes = x' }
-
--- before the first event
-abbrev pub noTotals : Totals
-noTotals = record { energy = zero-f; used = zero-f; weighted = zero-f; drawn = zero-f }
 
 -- s, which an accepted step came to, is what the code answers and leaves
 pub record Left (s : Outcome) (w : WorkAnswer) (temps : List Float) (flags : List Bool) (lines : List HeaterLine) : Type 0 where

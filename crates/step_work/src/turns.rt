@@ -8,7 +8,7 @@ ghost use Rattle.tank_model.specs.Order.{workingOrder};
 ghost use Rattle.tank_arrays.specs.Arrays.{settingsIn, HoldsLines};
 ghost use Rattle.step_work.specs.Lent.{immersion, fixedLent, noTurns, heatingIn, notesIn, turnFrom, CanHeat, OrderOf, TurnWorked, TurnsWorked};
 use cylinder::Cylinder;
-use heating::SetPoints;
+use set_points::SetPoints;
 use mixing::limits::MAX_LAYERS;
 use tank_arrays::arrays::THREE_EACH;
 use tank_arrays::arrays::TWO_EACH;
@@ -66,7 +66,7 @@ fn heat_turn(
         × (r .worked ≡ s .worked + 1)
         × HoldsLines (now (figures .exit)) (now (flags .exit)) (now (rounds .exit)) ⌝ }
 {
-    let i = tank_model::immersion_of(c.layers, x);
+    let i = tank_arrays::heaters::immersion_of(c.layers, x);
     let thermostat = i.thermostat;
     course[h] = temps[thermostat];
     let u = immersion_heater::turn::turn(c, vol, i, p, on[h], temps, charged);

@@ -9,7 +9,7 @@ ghost use Rattle.numeric.specs.Double.{_⊘_, zero-f};
 ghost use Rattle.numeric.specs.Close.{wideClose};
 ghost use Rattle.mixing.specs.Limits.{maxLayers};
 ghost use Rattle.tank_arrays.specs.Arrays.{HoldsLines, ZeroLines, fixedWith, stepWith};
-ghost use Rattle.step_work.specs.Lent.{noTotals, notesIn, StepWorked};
+ghost use Rattle.step_work.specs.Lent.{notesIn, StepWorked};
 use cylinder::Cylinder;
 use draw_events::Totals;
 use draw_events::event::MAX_EVENTS;
@@ -18,18 +18,6 @@ use mixing::limits::MAX_LAYERS;
 use tank_arrays::arrays::THREE_EACH;
 use tank_arrays::arrays::TWO_EACH;
 use working_order::MAX_HEATERS;
-
-// Before the first event.
-pub fn no_totals() -> Totals
-    ensures { λ r. ⌜ r ≡ noTotals ⌝ }
-{
-    Totals {
-        energy: 0.0,
-        used: 0.0,
-        weighted: 0.0,
-        drawn: 0.0,
-    }
-}
 
 // Weighted sum / volume drawn, or the top layer if that volume is wide-close to 0.
 fn average_of(n: usize, temps: &[f64; MAX_LAYERS], t: Totals) -> f64
@@ -67,7 +55,7 @@ fn refused(number: u8, turns: usize) -> WorkAnswer
     WorkAnswer {
         number,
         turns,
-        totals: no_totals(),
+        totals: draw_events::no_totals(),
         average: 0.0,
         recoverable: 0.0,
     }
@@ -103,7 +91,7 @@ pub fn work_step(
         (notesIn (now (figures .exit)) (now (flags .exit)) (now (rounds .exit)) (now (course .exit)) (now (ran .exit)))
         × (r .number ≡ 0 → HoldsLines (now (figures .exit)) (now (flags .exit)) (now (rounds .exit))) ⌝ }
 {
-    let k = tank_arrays::refusals::lent_refusal(
+    let k = tank_refusals::refusals::lent_refusal(
         c,
         n,
         temps,
@@ -121,7 +109,7 @@ pub fn work_step(
     }
     let vol = cylinder::layer_volumes(c);
     let water = Feed { temperature: feed };
-    let d = draw_events::event::draw_events(c, &vol, water, events, volumes, temps, no_totals());
+    let d = draw_events::event::draw_events(c, &vol, water, events, volumes, temps, draw_events::no_totals());
     if d.number != 0 {
         return refused(d.number, 0);
     }

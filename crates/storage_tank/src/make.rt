@@ -50,14 +50,14 @@ fn heater_at(h: usize, n: usize, x: Heater) -> Heater
     if h < n {
         return clean_heater(x);
     }
-    tank_model::zero_heater()
+    tank_arrays::heaters::zero_heater()
 }
 
 // The first n heaters as given, and zeros past them.
 fn fitted_heaters(n: usize, fitted: [Heater; MAX_HEATERS]) -> [Heater; MAX_HEATERS]
     ensures { λ r. ⌜ r ≡ fittedHeaters n fitted ⌝ }
 {
-    let mut heaters = [tank_model::zero_heater(); MAX_HEATERS];
+    let mut heaters = [tank_arrays::heaters::zero_heater(); MAX_HEATERS];
     let mut h = 0;
     while h < MAX_HEATERS {
         let x = fitted[h];
@@ -81,7 +81,7 @@ pub fn zero_tank() -> StorageTank
         timestep: 0.0,
         temps: [0.0; MAX_LAYERS],
         heaters: 0,
-        fitted: [tank_model::zero_heater(); MAX_HEATERS],
+        fitted: [tank_arrays::heaters::zero_heater(); MAX_HEATERS],
         flags: [false; MAX_HEATERS],
     }
 }
@@ -114,7 +114,7 @@ impl StorageTank {
     pub fn new(m: TankDesign) -> Made
         ensures { λ r. ⌜ r ≡ made m ⌝ }
     {
-        let n = tank_arrays::refusals::make_refusal(m);
+        let n = tank_refusals::refusals::make_refusal(m);
         if n != 0 {
             return Made {
                 number: n,

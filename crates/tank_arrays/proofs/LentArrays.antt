@@ -6,15 +6,16 @@ use native.Mathlib.Decide.{ℕ-discrete}
 use mathlib.Core.Path.{_≡_, refl, sym, ap, _∙_, subst}
 use mathlib.Core.Logic.{_≢_}
 use mathlib.Core.Bool.{Bool, false}
-use mathlib.Core.List.{List, [], _∷_}
+use mathlib.Core.List.{List, [], _∷_, _++_}
 use lib.ListN.{length, getD, set, replicate, length-set}
 use lib.Seq.{getD-set-same, getD-set-other}
 use lib.Ieee.{Float, nan}
 use Rattle.numeric.specs.Double.{zero-f}
+use Rattle.numeric.specs.Iterate.{iterate}
 use Rattle.numeric.specs.Tabulate.{tabulate, tabulate-same, length-tabulate, at-tabulate}
-use Rattle.heating.specs.declared.SetPoints.{SetPoints}
-use Rattle.heating.specs.declared.SetPoints.the-variants.{Neither, Lower, Upper, Both}
-use Rattle.heating.specs.SetPoints.{hasUpper, upperOf}
+use Rattle.set_points.specs.declared.SetPoints.{SetPoints}
+use Rattle.set_points.specs.declared.SetPoints.the-variants.{Neither, Lower, Upper, Both}
+use Rattle.set_points.specs.SetPoints.{hasLower, hasUpper, lowerOf, upperOf}
 use Rattle.working_order.specs.Order.{maxHeaters, threeEach}
 use Rattle.tank_model.specs.declared.Heater.{Heater}
 use Rattle.tank_model.specs.declared.HeaterLine.{HeaterLine}
@@ -23,7 +24,7 @@ use Rattle.tank_model.specs.declared.Step.{Step}
 use Rattle.tank_model.specs.Fixed.{noHeater}
 use Rattle.tank_model.specs.Checks.{noSetting}
 use Rattle.tank_model.specs.Work.{zeroLine}
-use Rattle.tank_arrays.specs.Arrays.{twoEach, heaterIn, fittedIn, heatersOf, thermostatsOf, pointsIn, settingIn, settingsIn, hasLower, lowerOf, presentOf, setPointsOf, lineIn, linesIn, HoldsLines, ZeroLines, stepWith}
+use Rattle.tank_arrays.specs.Arrays.{twoEach, heaterIn, fittedIn, heatersOf, thermostatsOf, pointsIn, settingIn, settingsIn, presentOf, setPointsOf, lineIn, linesIn, HoldsLines, ZeroLines, stepWith}
 
 -- ---- a list is the list of its places
 
@@ -41,6 +42,15 @@ module _ {A : Type 0} (d : A) where
 -- lists that agree place by place
 pub list-same : {A : Type 0} {x y : A} {xs ys : List A} → x ≡ y → xs ≡ ys → x ∷ xs ≡ y ∷ ys
 list-same e f = rw (e, f)
+
+-- two of a kind for each heater, written heater by heater, stand in two rows
+module _ {A : Type 0} (f g : ℕ → A) where
+  abbrev pub bothAt : ℕ → List A → List A
+  bothAt h xs = set (set xs h (f h)) (maxHeaters + h) (g h)
+
+  pub both-rows : (a : A) → iterate bothAt maxHeaters 0 (replicate twoEach a) ≡ tabulate f maxHeaters 0 ++ tabulate g maxHeaters 0
+  unfolding iterate tabulate
+  both-rows a = refl
 
 -- ---- what stands at a heater's place
 

@@ -1,4 +1,3 @@
--- What stands in the arrays, and what is refused by the parts of the checks.
+-- What stands in the arrays.
 pub mod LentArrays
 pub mod WorkingOrder
-pub mod FirstRefusal

@@ -9,9 +9,9 @@ use lib.Ieee.{Float, nan}
 use Rattle.numeric.specs.Double.{zero-f}
 use Rattle.numeric.specs.Tabulate.{tabulate}
 use Rattle.cylinder.specs.declared.Cylinder.{Cylinder}
-use Rattle.heating.specs.declared.SetPoints.{SetPoints}
-use Rattle.heating.specs.declared.SetPoints.the-variants.{Neither, Lower, Upper, Both}
-use Rattle.heating.specs.SetPoints.{hasUpper, upperOf}
+use Rattle.set_points.specs.declared.SetPoints.{SetPoints}
+use Rattle.set_points.specs.declared.SetPoints.the-variants.{Neither, Lower, Upper, Both}
+use Rattle.set_points.specs.SetPoints.{hasLower, hasUpper, lowerOf, upperOf}
 use Rattle.working_order.specs.Order.{maxHeaters, threeEach, positionIn}
 use Rattle.tank_model.specs.declared.Heater.{Heater}
 use Rattle.tank_model.specs.declared.HeaterLine.{HeaterLine}
@@ -62,19 +62,6 @@ settingIn present points h =
 
 unfoldable pub settingsIn : List Bool → List Float → List Setting
 settingsIn present points = tabulate (settingIn present points) maxHeaters 0
-
-unfoldable pub hasLower : SetPoints → Bool
-hasLower Neither = false
-hasLower (Lower l) = true
-hasLower (Upper u) = false
-hasLower (Both l u) = true
-
--- not-a-number where there is none
-unfoldable pub lowerOf : SetPoints → Float
-lowerOf Neither = nan
-lowerOf (Lower l) = l
-lowerOf (Upper u) = nan
-lowerOf (Both l u) = l
 
 unfoldable pub presentOf : List Setting → List Bool
 presentOf xs =

@@ -2,14 +2,13 @@
 ghost use mathlib.Core.Path.{_≡_};
 ghost use Prim.Native.Nat.{_<_};
 ghost use lib.ListN.{getD, length};
-ghost use Rattle.heating.specs.SetPoints.{hasUpper, upperOf};
 ghost use Rattle.working_order.specs.Order.{maxHeaters};
 ghost use Rattle.tank_model.specs.Fixed.{noHeater};
 ghost use Rattle.tank_model.specs.Checks.{noSetting};
-ghost use Rattle.tank_arrays.specs.Arrays.{fittedIn, heatersOf, thermostatsOf, pointsIn, settingsIn, hasLower, lowerOf, presentOf, setPointsOf};
+ghost use Rattle.tank_arrays.specs.Arrays.{fittedIn, heatersOf, thermostatsOf, pointsIn, settingsIn, presentOf, setPointsOf};
 ghost use Rattle.tank_arrays.specs.Arrays.{lineIn, linesIn, HoldsLines};
 ghost use Rattle.tank_arrays.specs.Contracts.{LineWritten};
-use heating::SetPoints;
+use set_points::SetPoints;
 use tank_model::Heater;
 use tank_model::HeaterLine;
 use tank_model::Setting;
@@ -145,107 +144,35 @@ pub fn thermostats_of(fitted: [Heater; MAX_HEATERS]) -> [bool; MAX_HEATERS]
     ]
 }
 
-fn has_lower(x: Setting) -> bool
-    ensures { λ r. ⌜ r ≡ hasLower (x .points) ⌝ }
-{
-    let p = x.points;
-    match p {
-        SetPoints::Neither => false,
-        SetPoints::Lower(_) => true,
-        SetPoints::Upper(_) => false,
-        SetPoints::Both(_, _) => true,
-    }
-}
-
-fn has_upper(x: Setting) -> bool
-    ensures { λ r. ⌜ r ≡ hasUpper (x .points) ⌝ }
-{
-    let p = x.points;
-    heating::set_points::has_upper(p)
-}
-
-// The lower set point, not-a-number where there is none.
-fn lower_of(x: Setting) -> f64
-    ensures { λ r. ⌜ r ≡ lowerOf (x .points) ⌝ }
-{
-    let none = 0.0 / 0.0;
-    let p = x.points;
-    match p {
-        SetPoints::Neither => none,
-        SetPoints::Lower(l) => l,
-        SetPoints::Upper(_) => none,
-        SetPoints::Both(l, _) => l,
-    }
-}
-
-fn upper_of(x: Setting) -> f64
-    ensures { λ r. ⌜ r ≡ upperOf (x .points) ⌝ }
-{
-    let p = x.points;
-    heating::set_points::upper_of(p)
-}
-
 // Whether the set points are present: the lower ones first, then the upper ones.
 pub fn present_of(settings: [Setting; MAX_HEATERS]) -> [bool; TWO_EACH]
     ensures { λ r. ⌜ (r ≡ presentOf settings) × (length settings ≡ maxHeaters) ⌝ }
 {
-    let a = settings[0];
-    let b = settings[1];
-    let c = settings[2];
-    let d = settings[3];
-    let e = settings[4];
-    let f = settings[5];
-    let g = settings[6];
-    let h = settings[7];
-    [
-        has_lower(a),
-        has_lower(b),
-        has_lower(c),
-        has_lower(d),
-        has_lower(e),
-        has_lower(f),
-        has_lower(g),
-        has_lower(h),
-        has_upper(a),
-        has_upper(b),
-        has_upper(c),
-        has_upper(d),
-        has_upper(e),
-        has_upper(f),
-        has_upper(g),
-        has_upper(h),
-    ]
+    let mut present = [false; TWO_EACH];
+    let mut h = 0;
+    while h < MAX_HEATERS {
+        let x = settings[h];
+        let p = x.points;
+        present[h] = set_points::has_lower(p);
+        present[MAX_HEATERS + h] = set_points::has_upper(p);
+        h += 1;
+    }
+    present
 }
 
 pub fn set_points_of(settings: [Setting; MAX_HEATERS]) -> [f64; TWO_EACH]
     ensures { λ r. ⌜ r ≡ setPointsOf settings ⌝ }
 {
-    let a = settings[0];
-    let b = settings[1];
-    let c = settings[2];
-    let d = settings[3];
-    let e = settings[4];
-    let f = settings[5];
-    let g = settings[6];
-    let h = settings[7];
-    [
-        lower_of(a),
-        lower_of(b),
-        lower_of(c),
-        lower_of(d),
-        lower_of(e),
-        lower_of(f),
-        lower_of(g),
-        lower_of(h),
-        upper_of(a),
-        upper_of(b),
-        upper_of(c),
-        upper_of(d),
-        upper_of(e),
-        upper_of(f),
-        upper_of(g),
-        upper_of(h),
-    ]
+    let mut points = [0.0; TWO_EACH];
+    let mut h = 0;
+    while h < MAX_HEATERS {
+        let x = settings[h];
+        let p = x.points;
+        points[h] = set_points::lower_of(p);
+        points[MAX_HEATERS + h] = set_points::upper_of(p);
+        h += 1;
+    }
+    points
 }
 
 // The line of the heater h: adjusted inputs stand first, then energies supplied, then losses.

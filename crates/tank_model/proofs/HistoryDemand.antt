@@ -13,7 +13,7 @@ use lib.Ieee.{Float, nan}
 use lib.Ieee.Scale.{finite}
 use lib.Ieee.Fits.{and-l, and-r, and-i, eq→eqb}
 use Rattle.numeric.specs.Double.{zero-f}
-use Rattle.immersion_heater.specs.SwitchLaws.{latched}
+use Rattle.heater_switches.specs.SwitchLaws.{latched}
 use Rattle.working_order.specs.Order.{maxHeaters}
 use Rattle.tank_model.specs.declared.TankDesign.{TankDesign}
 use Rattle.tank_model.specs.Fixed.{fixedOf}

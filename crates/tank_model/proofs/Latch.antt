@@ -8,7 +8,7 @@ use Prim.Native.Nat.{ℕ, zero, suc, _≤_, zero-le, suc-le-suc}
 use native.Mathlib.Nat.{le-of-suc-le-suc, not-suc-le-zero}
 use lib.Dec.{T}
 use lib.ListN.{getD}
-use Rattle.immersion_heater.specs.SwitchLaws.{latched}
+use Rattle.heater_switches.specs.SwitchLaws.{latched}
 
 not-reset : (s r f : Bool) → T (latched s r f) → T (not r)
 not-reset true false f t = tt

@@ -119,16 +119,13 @@ heaters-many m = many-placed (m .heaters) (m .fitted)
 
 -- ---- the order of work
 
-abbrev heaterBefore : Fixed → ℕ → ℕ → Bool
-heaterBefore f = comesBefore (λ (h : ℕ). heaterOf f h .position)
-
 pub order-below : (f : Fixed) → All (λ (h : ℕ). h < length (f .heaters)) (workingOrder f)
 unfolding workingOrder risingOrder
-order-below f = sort-all (heaterBefore f) (λ (h : ℕ). h < length (f .heaters)) (indices (length (f .heaters))) (indices-below (length (f .heaters)) (length (f .heaters)) (omega arith))
+order-below f = sort-all _ (λ (h : ℕ). h < length (f .heaters)) (indices (length (f .heaters))) (indices-below (length (f .heaters)) (length (f .heaters)) (omega arith))
 
 pub order-once : (f : Fixed) → Distinct (workingOrder f)
 unfolding workingOrder risingOrder
-order-once f = sorted-once (heaterBefore f) (length (f .heaters))
+order-once f = sorted-once _ (length (f .heaters))
 
 pub in-working-order : (m : TankDesign) → InWorkingOrder m (workingOrder (fixedOf m))
 unfolding workingOrder risingOrder
@@ -140,7 +137,7 @@ in-working-order m = rw (heaters-many m) (record {
 })
   where
     before : ℕ → ℕ → Bool
-    before = heaterBefore (fixedOf m)
+    before = comesBefore (λ (h : ℕ). heaterOf (fixedOf m) h .position)
 
     only : All (λ (h : ℕ). h < m .heaters) (insertionSort before (indices (m .heaters)))
     only = sort-all before (λ (h : ℕ). h < m .heaters) (indices (m .heaters)) (indices-below (m .heaters) (m .heaters) (omega arith))

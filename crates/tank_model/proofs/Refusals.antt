@@ -12,8 +12,8 @@ use lib.Ieee.Scale.{finite}
 use lib.Ieee.Fits.{and-l, and-r, and-i}
 use Rattle.numeric.specs.Double.{zero-f, one-f}
 use Rattle.cylinder.specs.Layers.{allFinite}
-use Rattle.heating.specs.declared.SetPoints.{SetPoints}
-use Rattle.heating.specs.declared.SetPoints.the-variants.{Neither, Lower, Upper, Both}
+use Rattle.set_points.specs.declared.SetPoints.{SetPoints}
+use Rattle.set_points.specs.declared.SetPoints.the-variants.{Neither, Lower, Upper, Both}
 use Rattle.tank_model.specs.declared.TankDesign.{TankDesign}
 use Rattle.tank_model.specs.declared.Step.{Step}
 use Rattle.tank_model.specs.Fixed.{Placed, State, heaterOf, fixedOf}

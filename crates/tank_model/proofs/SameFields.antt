@@ -9,7 +9,7 @@ use Rattle.draw_events.specs.declared.Totals.{Totals}
 use Rattle.draw_off.specs.Draw.{Draw}
 use Rattle.refill.specs.Refill.{Refill}
 use Rattle.draw_events.specs.Event.{Event, EventMixing}
-use Rattle.heating.specs.declared.SetPoints.{SetPoints}
+use Rattle.set_points.specs.declared.SetPoints.{SetPoints}
 use Rattle.immersion_heater.specs.Turn.{Turned}
 use Rattle.tank_model.specs.declared.HeaterLine.{HeaterLine}
 use Rattle.tank_model.specs.declared.TankDesign.{TankDesign}

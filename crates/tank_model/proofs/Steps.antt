@@ -17,10 +17,10 @@ use Rattle.mixing.specs.Rearrange.{Mixing, sorted, unsorted}
 use Rattle.cylinder.specs.Layers.{allFinite}
 use Rattle.draw_off.specs.declared.cold.Feed.{Feed}
 use Rattle.draw_events.specs.Event.{Event, mixed}
-use Rattle.heating.specs.declared.SetPoints.{SetPoints}
-use Rattle.heating.specs.declared.SetPoints.the-variants.{Neither, Lower, Upper, Both}
-use Rattle.immersion_heater.specs.Switch.{atOrUnderLower, upperMissingOrReached}
-use Rattle.immersion_heater.specs.SwitchLaws.{latched}
+use Rattle.set_points.specs.declared.SetPoints.{SetPoints}
+use Rattle.set_points.specs.declared.SetPoints.the-variants.{Neither, Lower, Upper, Both}
+use Rattle.heater_switches.specs.Switch.{atOrUnderLower, upperMissingOrReached}
+use Rattle.heater_switches.specs.SwitchLaws.{latched}
 use Rattle.working_order.specs.Order.{maxHeaters}
 use Rattle.tank_model.specs.declared.TankDesign.{TankDesign}
 use Rattle.tank_model.specs.declared.Step.{Step}

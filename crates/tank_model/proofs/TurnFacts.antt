@@ -13,12 +13,12 @@ use Rattle.numeric.specs.Compare.{minOf2, maxOf2}
 use Rattle.numeric.specs.Close.{wideClose, narrowClose}
 use Rattle.mixing.specs.Rearrange.{Mixing, sorted, unsorted}
 use Rattle.cylinder.specs.Layers.{layerVolume, layerVolumes}
-use Rattle.heating.specs.declared.SetPoints.{SetPoints}
-use Rattle.heating.specs.declared.SetPoints.the-variants.{Neither, Lower, Upper, Both}
-use Rattle.heating.specs.SetPoints.{hasUpper, upperOf}
-use Rattle.immersion_heater.specs.Switch.{atOrUnderLower, upperMissingOrReached, switchOn, switchOff}
+use Rattle.set_points.specs.declared.SetPoints.{SetPoints}
+use Rattle.set_points.specs.declared.SetPoints.the-variants.{Neither, Lower, Upper, Both}
+use Rattle.set_points.specs.SetPoints.{hasUpper, upperOf}
+use Rattle.heater_switches.specs.Switch.{atOrUnderLower, upperMissingOrReached, switchOn, switchOff}
 use Rattle.heating.specs.Heat.{offersTo, heated}
-use Rattle.heating.specs.Losses.{surplus, adjusted}
+use Rattle.thermal_losses.specs.Losses.{surplus, adjusted}
 use Rattle.heating.specs.FinalTemps.{FinalTemps, heatAndMix, adjustedInput, afterMixing, calcFinalTemps}
 use Rattle.immersion_heater.specs.Offer.{offer}
 use Rattle.immersion_heater.specs.Supply.{demand, supply}

@@ -13,8 +13,8 @@ use Rattle.numeric.specs.Close.{narrowClose}
 use Rattle.numeric.specs.Whole.{layerOf}
 use Rattle.cylinder.specs.declared.Cylinder.{Cylinder}
 use Rattle.draw_off.specs.declared.cold.Feed.{Feed}
-use Rattle.heating.specs.declared.SetPoints.{SetPoints}
-use Rattle.heating.specs.declared.SetPoints.the-variants.{Neither, Lower, Upper, Both}
+use Rattle.set_points.specs.declared.SetPoints.{SetPoints}
+use Rattle.set_points.specs.declared.SetPoints.the-variants.{Neither, Lower, Upper, Both}
 use Rattle.tank_model.specs.declared.TankDesign.{TankDesign}
 use Rattle.tank_model.specs.declared.Setting.{Setting}
 use Rattle.tank_model.specs.declared.Step.{Step}

@@ -21,7 +21,7 @@ use Rattle.draw_off.specs.Draw.{extract, volumeUsed}
 use Rattle.refill.specs.Refill.{refill}
 use Rattle.draw_events.specs.Event.{Event, unmixed, mixed}
 use Rattle.heating.specs.Heat.{offersTo, heated}
-use Rattle.heating.specs.Losses.{tempsAfter, chargedAfter, surplus, losses}
+use Rattle.thermal_losses.specs.Losses.{tempsAfter, chargedAfter, surplus, losses}
 use Rattle.immersion_heater.specs.Offer.{offer}
 use Rattle.tank_model.specs.declared.TankDesign.{TankDesign}
 use Rattle.tank_model.specs.declared.Step.{Step}

@@ -9,8 +9,8 @@ use lib.ListN.{getD}
 use lib.Ieee.{Float, nan, lt, le}
 use lib.Ieee.Scale.{finite}
 use Rattle.numeric.specs.Double.{zero-f, one-f}
-use Rattle.heating.specs.declared.SetPoints.{SetPoints}
-use Rattle.heating.specs.declared.SetPoints.the-variants.{Neither, Lower, Upper, Both}
+use Rattle.set_points.specs.declared.SetPoints.{SetPoints}
+use Rattle.set_points.specs.declared.SetPoints.the-variants.{Neither, Lower, Upper, Both}
 use Rattle.tank_model.specs.declared.TankDesign.{TankDesign}
 use Rattle.tank_model.specs.declared.Step.{Step}
 use Rattle.tank_model.specs.Fixed.{State}

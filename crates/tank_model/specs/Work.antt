@@ -13,8 +13,8 @@ use Rattle.mixing.specs.Limits.{maxLayers}
 use Rattle.cylinder.specs.declared.Cylinder.{Cylinder}
 use Rattle.draw_events.specs.declared.Totals.{Totals}
 use Rattle.draw_off.specs.declared.cold.Feed.{Feed}
-use Rattle.draw_events.specs.Event.{Event, eventOf, tempsAfterEvent, totalsAfterEvent, eventNumber}
-use Rattle.heating.specs.declared.SetPoints.{SetPoints}
+use Rattle.draw_events.specs.Event.{Event, noTotals, eventOf, tempsAfterEvent, totalsAfterEvent, eventNumber}
+use Rattle.set_points.specs.declared.SetPoints.{SetPoints}
 use Rattle.immersion_heater.specs.Turn.{Turned, turn, turnNumber}
 use Rattle.working_order.specs.Order.{maxHeaters}
 use Rattle.tank_model.specs.declared.HeaterLine.{HeaterLine}
@@ -33,7 +33,7 @@ pub record DrawOff : Type 0 where
 
 -- before the first event nothing is drawn
 abbrev pub undrawn : List Float → DrawOff
-undrawn temps = record { temps = temps; totals = record { energy = zero-f; used = zero-f; weighted = zero-f; drawn = zero-f } }
+undrawn temps = record { temps = temps; totals = noTotals }
 
 abbrev pub afterEvent : Cylinder → Event → DrawOff → DrawOff
 afterEvent c e s = record {

@@ -2,7 +2,7 @@
 use Prim.Native.Nat.{_+_}
 use native.Mathlib.Omega.{arith}
 use borrow.Author.Tests.{eq-eqb, ne-eqb}
-use Rattle.tank_arrays.proofs.FirstRefusal.{few-heaters}
+use Rattle.tank_refusals.proofs.FirstRefusal.{few-heaters}
 use Rattle.job_run.specs.Job.{heaterOutcome}
 use borrow.Author.Needs.{needs}
 use Rattle.job_run.proofs.record.add_heater.Statement.{statement}

@@ -6,9 +6,11 @@ use mathlib.Core.Path.{_≡_, refl, sym, _∙_}
 use mathlib.Core.Bool.{true}
 use mathlib.Core.Logic.{⊎-elim}
 use Rattle.numeric.specs.Descent.{Descent, descent-start, descent-next, descent-stop, descent-end}
-use Rattle.refill.specs.Refill.{takeFrom, refill}
-use Rattle.refill.specs.Lent.{fillingWith, refillOf}
-use Rattle.refill.specs.Repeats.{RepeatsAt}
+use Rattle.layer_filling.specs.Filling.{takeFrom}
+use Rattle.refill.specs.Refill.{refill}
+use Rattle.layer_filling.specs.Lent.{fillingWith}
+use Rattle.refill.specs.Lent.{refillOf}
+use Rattle.repeating_layers.specs.Repeats.{RepeatsAt}
 use Rattle.refill.proofs.Descents.{lackNone, refill-descends}
 use Rattle.refill.proofs.Filled.{lack-told, layer-refilled, mixes-now, mixes-still}
 use Rattle.refill.proofs.Refilling.{RefillLeft, left-next}

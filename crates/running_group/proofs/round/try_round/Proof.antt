@@ -6,7 +6,7 @@ use native.Mathlib.Omega.{arith}
 use lib.Ieee.{inf, neg, div, ofBits}
 use denote.Floats.{passes}
 use Rattle.numeric.specs.Double.{_⊘_, zero-f, one-f}
-use Rattle.running_group.specs.Running.{Follows}
+use Rattle.layer_joining.specs.Running.{Follows}
 use Rattle.running_group.proofs.Parting.{follows-start, follows-end}
 use borrow.Author.Needs.{needs}
 use Rattle.running_group.proofs.round.try_round.Statement.{statement}

@@ -1,114 +1,79 @@
--- `arrays::present_of` meets its contract (01, Tank): the settings are taken one by one.
-use mathlib.Core.Path.{refl}
-use Rattle.numeric.specs.Tabulate.{tabulate}
+-- `arrays::present_of` meets its contract (01, Tank). The loop's invariant: writing the heaters left gives the whole.
+use Prim.Native.Nat.{ℕ, _-_}
+use mathlib.Core.Bool.{false}
+use mathlib.Core.Path.{_∙_}
+use Rattle.numeric.specs.Iterate.{Rest, rest-start, rest-next, rest-end}
+use Rattle.set_points.specs.SetPoints.{hasLower, hasUpper}
+use Rattle.working_order.specs.Order.{maxHeaters}
+use Rattle.tank_model.specs.Checks.{noSetting}
+use lib.ListN.{getD}
 use Rattle.tank_arrays.specs.Arrays.{presentOf}
-use Rattle.tank_arrays.proofs.LentArrays.{list-same}
+use Rattle.tank_arrays.proofs.LentArrays.{bothAt, both-rows}
 use borrow.Author.Needs.{needs}
 use Rattle.tank_arrays.proofs.arrays.present_of.Statement.{statement}
 use Rattle.tank_arrays.proofs.arrays.present_of.Tie as tie
 
-array-copy-out-a : tie.Need-array-copy-out-a
-array-copy-out-a c = search needs
+abbrev Inv-loop : tie.InvT-loop
+Inv-loop settings present₀ h₀ present h =
+    Rest (bothAt (λ (j : ℕ). hasLower (getD settings j noSetting .points)) (λ (j : ℕ). hasUpper (getD settings j noSetting .points))) maxHeaters present₀ h present
 
-array-copy-out-b : tie.Need-array-copy-out-b
-array-copy-out-b c = search needs
+abbrev μ-loop : tie.MeasureT-loop
+μ-loop settings present₀ h₀ present h = maxHeaters - h
 
-array-copy-out-c : tie.Need-array-copy-out-c
-array-copy-out-c c = search needs
+loop-holds : tie.Need-loop-holds Inv-loop μ-loop
+loop-holds c = rest-start _ _ _
 
-array-copy-out-d : tie.Need-array-copy-out-d
-array-copy-out-d c = search needs
+mul-x : tie.Need-mul-x Inv-loop μ-loop
+mul-x c = search needs
 
-array-copy-out-e : tie.Need-array-copy-out-e
-array-copy-out-e c = search needs
+array-copy-out-x : tie.Need-array-copy-out-x Inv-loop μ-loop
+array-copy-out-x c = search needs
 
-array-copy-out-f : tie.Need-array-copy-out-f
-array-copy-out-f c = search needs
-
-array-copy-out-g : tie.Need-array-copy-out-g
-array-copy-out-g c = search needs
-
-array-copy-out-h : tie.Need-array-copy-out-h
-array-copy-out-h c = search needs
-
-has-lower-requires : tie.Need-has-lower-requires
+has-lower-requires : tie.Need-has-lower-requires Inv-loop μ-loop
 has-lower-requires c κs = search needs
 
-has-lower-requires-2 : tie.Need-has-lower-requires-2
-has-lower-requires-2 c κs = search needs
+array-write-present : tie.Need-array-write-present Inv-loop μ-loop
+array-write-present c = search needs
 
-has-lower-requires-3 : tie.Need-has-lower-requires-3
-has-lower-requires-3 c κs = search needs
-
-has-lower-requires-4 : tie.Need-has-lower-requires-4
-has-lower-requires-4 c κs = search needs
-
-has-lower-requires-5 : tie.Need-has-lower-requires-5
-has-lower-requires-5 c κs = search needs
-
-has-lower-requires-6 : tie.Need-has-lower-requires-6
-has-lower-requires-6 c κs = search needs
-
-has-lower-requires-7 : tie.Need-has-lower-requires-7
-has-lower-requires-7 c κs = search needs
-
-has-lower-requires-8 : tie.Need-has-lower-requires-8
-has-lower-requires-8 c κs = search needs
-
-has-upper-requires : tie.Need-has-upper-requires
+has-upper-requires : tie.Need-has-upper-requires Inv-loop μ-loop
 has-upper-requires c κs = search needs
 
-has-upper-requires-2 : tie.Need-has-upper-requires-2
-has-upper-requires-2 c κs = search needs
+add-present : tie.Need-add-present Inv-loop μ-loop
+add-present c = search needs
 
-has-upper-requires-3 : tie.Need-has-upper-requires-3
-has-upper-requires-3 c κs = search needs
+array-write-present-2 : tie.Need-array-write-present-2 Inv-loop μ-loop
+array-write-present-2 c = search needs
 
-has-upper-requires-4 : tie.Need-has-upper-requires-4
-has-upper-requires-4 c κs = search needs
+add-h : tie.Need-add-h Inv-loop μ-loop
+add-h c = search needs
 
-has-upper-requires-5 : tie.Need-has-upper-requires-5
-has-upper-requires-5 c κs = search needs
+loop-less : tie.Need-loop-less Inv-loop μ-loop
+loop-less c = search needs
 
-has-upper-requires-6 : tie.Need-has-upper-requires-6
-has-upper-requires-6 c κs = search needs
+loop-again : tie.Need-loop-again Inv-loop μ-loop
+loop-again c =
+    let test = c .before .before .before in
+    rw (c .has-upper .ensures, c .before .has-lower .ensures) (rest-next _ _ _ _ _ (test .loop-test .taken) (test .before .loop .inv))
 
-has-upper-requires-7 : tie.Need-has-upper-requires-7
-has-upper-requires-7 c κs = search needs
-
-has-upper-requires-8 : tie.Need-has-upper-requires-8
-has-upper-requires-8 c κs = search needs
-
-returns : tie.Need-returns
-unfolding tabulate presentOf
-returns c = (list-same (c .before .before .before .before .before .before .before .before .before .before .before .before .before .before .before .has-lower .ensures) (list-same (c .before .before .before .before .before .before .before .before .before .before .before .before .before .before .has-lower2 .ensures) (list-same (c .before .before .before .before .before .before .before .before .before .before .before .before .before .has-lower3 .ensures) (list-same (c .before .before .before .before .before .before .before .before .before .before .before .before .has-lower4 .ensures) (list-same (c .before .before .before .before .before .before .before .before .before .before .before .has-lower5 .ensures) (list-same (c .before .before .before .before .before .before .before .before .before .before .has-lower6 .ensures) (list-same (c .before .before .before .before .before .before .before .before .before .has-lower7 .ensures) (list-same (c .before .before .before .before .before .before .before .before .has-lower8 .ensures) (list-same (c .before .before .before .before .before .before .before .has-upper .ensures) (list-same (c .before .before .before .before .before .before .has-upper2 .ensures) (list-same (c .before .before .before .before .before .has-upper3 .ensures) (list-same (c .before .before .before .before .has-upper4 .ensures) (list-same (c .before .before .before .has-upper5 .ensures) (list-same (c .before .before .has-upper6 .ensures) (list-same (c .before .has-upper7 .ensures) (list-same (c .has-upper8 .ensures) refl))))))))))))))), search needs)
+returns : tie.Need-returns Inv-loop μ-loop
+unfolding presentOf
+returns c = (rest-end _ _ _ _ _ (c .loop-test .left) (c .before .loop .inv) ∙ both-rows _ _ false, search needs)
 
 pub present-of-spec : {M : Type 1} → statement M
 present-of-spec =
     tie.close
     (tie.spec
-    array-copy-out-a
-    array-copy-out-b
-    array-copy-out-c
-    array-copy-out-d
-    array-copy-out-e
-    array-copy-out-f
-    array-copy-out-g
-    array-copy-out-h
+    Inv-loop
+    μ-loop
+    loop-holds
+    mul-x
+    array-copy-out-x
     has-lower-requires
-    has-lower-requires-2
-    has-lower-requires-3
-    has-lower-requires-4
-    has-lower-requires-5
-    has-lower-requires-6
-    has-lower-requires-7
-    has-lower-requires-8
+    array-write-present
     has-upper-requires
-    has-upper-requires-2
-    has-upper-requires-3
-    has-upper-requires-4
-    has-upper-requires-5
-    has-upper-requires-6
-    has-upper-requires-7
-    has-upper-requires-8
+    add-present
+    array-write-present-2
+    add-h
+    loop-less
+    loop-again
     returns)

@@ -1,114 +1,87 @@
--- `arrays::set_points_of` meets its contract (01, Tank): the settings are taken one by one.
-use mathlib.Core.Path.{refl}
-use Rattle.numeric.specs.Tabulate.{tabulate}
+-- `arrays::set_points_of` meets its contract (01, Tank). The loop's invariant: writing the heaters left gives the whole.
+use Prim.Native.Nat.{ℕ, _-_}
+use mathlib.Core.Path.{_∙_}
+use Rattle.numeric.specs.Double.{zero-f}
+use Rattle.numeric.specs.Iterate.{Rest, rest-start, rest-next, rest-end}
+use Rattle.set_points.specs.SetPoints.{lowerOf, upperOf}
+use Rattle.working_order.specs.Order.{maxHeaters}
+use Rattle.tank_model.specs.Checks.{noSetting}
+use lib.ListN.{getD}
 use Rattle.tank_arrays.specs.Arrays.{setPointsOf}
-use Rattle.tank_arrays.proofs.LentArrays.{list-same}
+use Rattle.tank_arrays.proofs.LentArrays.{bothAt, both-rows}
 use borrow.Author.Needs.{needs}
 use Rattle.tank_arrays.proofs.arrays.set_points_of.Statement.{statement}
 use Rattle.tank_arrays.proofs.arrays.set_points_of.Tie as tie
 
-array-copy-out-a : tie.Need-array-copy-out-a
-array-copy-out-a c = search needs
+abbrev Inv-loop : tie.InvT-loop
+Inv-loop settings points₀ h₀ points h =
+    Rest (bothAt (λ (j : ℕ). lowerOf (getD settings j noSetting .points)) (λ (j : ℕ). upperOf (getD settings j noSetting .points))) maxHeaters points₀ h points
 
-array-copy-out-b : tie.Need-array-copy-out-b
-array-copy-out-b c = search needs
+abbrev μ-loop : tie.MeasureT-loop
+μ-loop settings points₀ h₀ points h = maxHeaters - h
 
-array-copy-out-c : tie.Need-array-copy-out-c
-array-copy-out-c c = search needs
+loop-holds : tie.Need-loop-holds Inv-loop μ-loop
+loop-holds c = rest-start _ _ _
 
-array-copy-out-d : tie.Need-array-copy-out-d
-array-copy-out-d c = search needs
+mul-x : tie.Need-mul-x Inv-loop μ-loop
+mul-x c = search needs
 
-array-copy-out-e : tie.Need-array-copy-out-e
-array-copy-out-e c = search needs
+array-copy-out-x : tie.Need-array-copy-out-x Inv-loop μ-loop
+array-copy-out-x c = search needs
 
-array-copy-out-f : tie.Need-array-copy-out-f
-array-copy-out-f c = search needs
-
-array-copy-out-g : tie.Need-array-copy-out-g
-array-copy-out-g c = search needs
-
-array-copy-out-h : tie.Need-array-copy-out-h
-array-copy-out-h c = search needs
-
-lower-of-requires : tie.Need-lower-of-requires
+lower-of-requires : tie.Need-lower-of-requires Inv-loop μ-loop
 lower-of-requires c κs = search needs
 
-lower-of-requires-2 : tie.Need-lower-of-requires-2
-lower-of-requires-2 c κs = search needs
+mul-points : tie.Need-mul-points Inv-loop μ-loop
+mul-points c = search needs
 
-lower-of-requires-3 : tie.Need-lower-of-requires-3
-lower-of-requires-3 c κs = search needs
+array-write-points : tie.Need-array-write-points Inv-loop μ-loop
+array-write-points c = search needs
 
-lower-of-requires-4 : tie.Need-lower-of-requires-4
-lower-of-requires-4 c κs = search needs
-
-lower-of-requires-5 : tie.Need-lower-of-requires-5
-lower-of-requires-5 c κs = search needs
-
-lower-of-requires-6 : tie.Need-lower-of-requires-6
-lower-of-requires-6 c κs = search needs
-
-lower-of-requires-7 : tie.Need-lower-of-requires-7
-lower-of-requires-7 c κs = search needs
-
-lower-of-requires-8 : tie.Need-lower-of-requires-8
-lower-of-requires-8 c κs = search needs
-
-upper-of-requires : tie.Need-upper-of-requires
+upper-of-requires : tie.Need-upper-of-requires Inv-loop μ-loop
 upper-of-requires c κs = search needs
 
-upper-of-requires-2 : tie.Need-upper-of-requires-2
-upper-of-requires-2 c κs = search needs
+add-points : tie.Need-add-points Inv-loop μ-loop
+add-points c = search needs
 
-upper-of-requires-3 : tie.Need-upper-of-requires-3
-upper-of-requires-3 c κs = search needs
+mul-points-2 : tie.Need-mul-points-2 Inv-loop μ-loop
+mul-points-2 c = search needs
 
-upper-of-requires-4 : tie.Need-upper-of-requires-4
-upper-of-requires-4 c κs = search needs
+array-write-points-2 : tie.Need-array-write-points-2 Inv-loop μ-loop
+array-write-points-2 c = search needs
 
-upper-of-requires-5 : tie.Need-upper-of-requires-5
-upper-of-requires-5 c κs = search needs
+add-h : tie.Need-add-h Inv-loop μ-loop
+add-h c = search needs
 
-upper-of-requires-6 : tie.Need-upper-of-requires-6
-upper-of-requires-6 c κs = search needs
+loop-less : tie.Need-loop-less Inv-loop μ-loop
+loop-less c = search needs
 
-upper-of-requires-7 : tie.Need-upper-of-requires-7
-upper-of-requires-7 c κs = search needs
+loop-again : tie.Need-loop-again Inv-loop μ-loop
+loop-again c =
+    let test = c .before .before .before in
+    rw (c .upper-of .ensures, c .before .lower-of .ensures) (rest-next _ _ _ _ _ (test .loop-test .taken) (test .before .loop .inv))
 
-upper-of-requires-8 : tie.Need-upper-of-requires-8
-upper-of-requires-8 c κs = search needs
-
-returns : tie.Need-returns
-unfolding tabulate setPointsOf
-returns c = list-same (c .before .before .before .before .before .before .before .before .before .before .before .before .before .before .before .lower-of .ensures) (list-same (c .before .before .before .before .before .before .before .before .before .before .before .before .before .before .lower-of2 .ensures) (list-same (c .before .before .before .before .before .before .before .before .before .before .before .before .before .lower-of3 .ensures) (list-same (c .before .before .before .before .before .before .before .before .before .before .before .before .lower-of4 .ensures) (list-same (c .before .before .before .before .before .before .before .before .before .before .before .lower-of5 .ensures) (list-same (c .before .before .before .before .before .before .before .before .before .before .lower-of6 .ensures) (list-same (c .before .before .before .before .before .before .before .before .before .lower-of7 .ensures) (list-same (c .before .before .before .before .before .before .before .before .lower-of8 .ensures) (list-same (c .before .before .before .before .before .before .before .upper-of .ensures) (list-same (c .before .before .before .before .before .before .upper-of2 .ensures) (list-same (c .before .before .before .before .before .upper-of3 .ensures) (list-same (c .before .before .before .before .upper-of4 .ensures) (list-same (c .before .before .before .upper-of5 .ensures) (list-same (c .before .before .upper-of6 .ensures) (list-same (c .before .upper-of7 .ensures) (list-same (c .upper-of8 .ensures) refl)))))))))))))))
+returns : tie.Need-returns Inv-loop μ-loop
+unfolding setPointsOf
+returns c = rest-end _ _ _ _ _ (c .loop-test .left) (c .before .loop .inv) ∙ both-rows _ _ zero-f
 
 pub set-points-of-spec : {M : Type 1} → statement M
 set-points-of-spec =
     tie.close
     (tie.spec
-    array-copy-out-a
-    array-copy-out-b
-    array-copy-out-c
-    array-copy-out-d
-    array-copy-out-e
-    array-copy-out-f
-    array-copy-out-g
-    array-copy-out-h
+    Inv-loop
+    μ-loop
+    loop-holds
+    mul-x
+    array-copy-out-x
     lower-of-requires
-    lower-of-requires-2
-    lower-of-requires-3
-    lower-of-requires-4
-    lower-of-requires-5
-    lower-of-requires-6
-    lower-of-requires-7
-    lower-of-requires-8
+    mul-points
+    array-write-points
     upper-of-requires
-    upper-of-requires-2
-    upper-of-requires-3
-    upper-of-requires-4
-    upper-of-requires-5
-    upper-of-requires-6
-    upper-of-requires-7
-    upper-of-requires-8
+    add-points
+    mul-points-2
+    array-write-points-2
+    add-h
+    loop-less
+    loop-again
     returns)

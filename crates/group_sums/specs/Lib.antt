@@ -1,0 +1,2 @@
+-- The definitions of `group_sums`: sums over a running group's layers (01, Mix).
+pub mod Sums

@@ -1,0 +1,28 @@
+-- `determine_heat_source_switch_on` meets its contract: the tests of the definition, in its order.
+use Rattle.heater_switches.specs.Switch.{switchOn}
+use borrow.Author.Needs.{needs}
+use Rattle.heater_switches.proofs.determine_heat_source_switch_on.Statement.{statement}
+use Rattle.heater_switches.proofs.determine_heat_source_switch_on.Tie as tie
+
+has-upper-requires : tie.Need-has-upper-requires
+has-upper-requires c κs = search needs
+
+is-at-or-under-lower-requires : tie.Need-is-at-or-under-lower-requires
+is-at-or-under-lower-requires c κs = search needs
+
+returns : tie.Need-returns
+unfolding switchOn
+returns c = rw (← c .before .before .before .has-upper .ensures, c .before .before .if1 .taken, ← c .before .is-at-or-under-lower .ensures, c .if2 .taken)
+
+returns-2 : tie.Need-returns-2
+unfolding switchOn
+returns-2 c = rw (← c .before .before .before .has-upper .ensures, c .before .before .if1 .taken, ← c .before .is-at-or-under-lower .ensures, c .if2 .left)
+
+returns-3 : tie.Need-returns-3
+unfolding switchOn
+returns-3 c = rw (← c .before .has-upper .ensures, c .if1 .left)
+
+pub determine-heat-source-switch-on-spec : {M : Type 1} → statement M
+determine-heat-source-switch-on-spec =
+    tie.close
+    (tie.spec has-upper-requires is-at-or-under-lower-requires returns returns-2 returns-3)

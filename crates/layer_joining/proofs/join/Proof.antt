@@ -1,0 +1,52 @@
+-- `running::join` meets its contract (01, Mix): by the shorter sums where they serve, by the others elsewhere.
+use borrow.Author.Needs.{needs}
+use Rattle.layer_joining.proofs.join.Statement.{statement}
+use Rattle.layer_joining.proofs.join.Tie as tie
+
+add-smaller-requires : tie.Need-add-smaller-requires
+add-smaller-requires c κs = search needs
+
+add-term-requires : tie.Need-add-term-requires
+add-term-requires c κs = search needs
+
+sub-guess-total : tie.Need-sub-guess-total
+sub-guess-total c = search needs
+
+guess-total-requires : tie.Need-guess-total-requires
+guess-total-requires c κs = search needs
+
+is-total-requires : tie.Need-is-total-requires
+is-total-requires c κs = search needs
+
+join-even-plain-requires : tie.Need-join-even-plain-requires
+join-even-plain-requires c κs =
+    let test = c .before .before .before .before .before .before in
+    let after = test .before .before .before .before .before in
+    let sum = after .before .add-smaller .ensures in
+    let pre = after .before .before .pre in
+    (pre .0, pre .1, pre .2, after .add-term .ensures, test .before .before .before .if1 .taken, sum .0, sum .1 (test .before .before .if2 .taken) (test .if3 .taken), λ f. c .before .is-total .ensures (c .if5 .taken))
+
+returns : tie.Need-returns
+returns c = c .join-even-plain .ensures
+
+join-even-requires : tie.Need-join-even-requires
+join-even-requires c κs =
+    let test = c .before .before in
+    let after = test .before .before .before .before .before in
+    let sum = after .before .add-smaller .ensures in
+    let pre = after .before .before .pre in
+    (pre .0, pre .1, pre .2, after .add-term .ensures, test .before .before .before .if1 .taken, sum .0, sum .1 (test .before .before .if2 .taken) (test .if3 .taken))
+
+returns-2 : tie.Need-returns-2
+returns-2 c = c .join-even .ensures
+
+join-any-requires : tie.Need-join-any-requires
+join-any-requires c κs =
+    let pre = c .before .before .before .before .pre in
+    (pre .0, pre .1, pre .2, c .before .before .add-term .ensures)
+
+returns-3 : tie.Need-returns-3
+returns-3 c = c .join-any .ensures
+
+pub join-spec : {M : Type 1} → statement M
+join-spec = tie.close (tie.spec add-smaller-requires add-term-requires sub-guess-total guess-total-requires is-total-requires join-even-plain-requires returns join-even-requires returns-2 join-any-requires returns-3)

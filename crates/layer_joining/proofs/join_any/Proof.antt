@@ -1,0 +1,145 @@
+-- `running::join_any` meets its contract (01, Mix). The heat is that of the group's layers at the new temperature: worked anew, or gone on with from what was kept,
+-- where the temperature is what it was.
+use mathlib.Core.Path.{_≡_, ap}
+use mathlib.Core.Logic.{_⊎_, inl, inr}
+use mathlib.Core.Bool.{true, not}
+use mathlib.Core.List.{List}
+use Prim.Native.Nat.{ℕ, _+_, _<_}
+use lib.Dec.{T}
+use lib.ListN.{getD}
+use lib.Ieee.{Float, nan, binary64, div, ofBits, fits, eq, isNan}
+use lib.Ieee.Fits.{div-fits}
+use lib.Ieee.Scale.{finite}
+use denote.Floats.{passes}
+use Rattle.numeric.specs.Double.{_⊕_, _⊛_, _⊘_, zero-f}
+use Rattle.numeric.specs.Zeros.{SameValue}
+use Rattle.numeric.specs.Sum2.{accumulate}
+use Rattle.numeric.specs.declared.sum2.Accumulator.{Accumulator}
+use Rattle.group_sums.specs.Sums.{heatSum}
+use Rattle.layer_joining.specs.Running.{SaysJoins, joinedGroup, AsDefined, Follows}
+use Rattle.layer_joining.specs.declared.RunningGroup.{RunningGroup}
+use Rattle.layer_joining.proofs.KeptHeat.{each-more, level-heat}
+use Rattle.layer_joining.proofs.Joining.{quotient-of, term-sum, met-parts, known-as, EachIs, follows-join}
+use borrow.Author.Needs.{needs}
+use Rattle.layer_joining.proofs.join_any.Statement.{statement}
+use Rattle.layer_joining.proofs.join_any.Tie as tie
+
+differ-nan : T (not (isNan (zero-f ⊘ zero-f))) → ⊥
+unfolding div ofBits isNan
+differ-nan h = h
+
+-- what is worked before the ways part
+module _ (c : tie.After-total-of2) where
+  abbrev start : tie.Start
+  start = c .before .before .before
+
+  abbrev r : RunningGroup
+  r = start .args .r
+
+  abbrev vol : List Float
+  vol = start .args .vol .now
+
+  abbrev i : ℕ
+  i = start .args .i
+
+  abbrev v : Float
+  v = start .args .v
+
+  abbrev next : Float
+  next = start .args .next
+
+  abbrev sum : Accumulator
+  sum = c .before .before .add-term .result
+
+  abbrev volume : Accumulator
+  volume = start .args .volume
+
+  abbrev temp : Float
+  temp = c .before .total-of .result ⊘ c .total-of2 .result
+
+  sum-is : sum ≡ accumulate (r .heat) (v ⊛ next)
+  sum-is = c .before .before .add-term .ensures
+
+  v-fits : T (fits binary64 v)
+  v-fits = passes _ (start .good .1 .1 .1 .0 .1)
+
+  follows : (q : RunningGroup) (heat : Accumulator) (each : Float)
+      → q ≡ joinedGroup r temp heat volume each (r .met ⊕ sum .s)
+      → ((n : ℕ) (first temps : List Float) → i + 1 < n → AsDefined n vol first i temps r → T (finite (heat .s)) → heat ≡ heatSum vol temp (r .bottom) (i + 2))
+      → ((n : ℕ) (first temps : List Float) → i + 1 < n → AsDefined n vol first i temps r → EachIs vol (r .bottom) (i + 2) each)
+      → (q .bottom ≡ r .bottom) × ((n : ℕ) (first temps : List Float) → i + 1 < n → next ≡ getD temps (i + 1) nan → SaysJoins (r .temp) next true → Follows n vol first i temps r → Follows n vol first (i + 1) temps q)
+  follows q heat each e h m =
+      let pre = start .pre in
+      let temp-is = quotient-of _ _ _ _ _ (c .before .total-of .ensures) (c .total-of2 .ensures) sum-is in (
+        ap (λ (g : RunningGroup). g .bottom) e,
+        λ n first temps b above j f.
+            rw e (follows-join n vol first i temps r (pre .0) b v next (pre .2) above volume (start .pre .3) temp heat each (r .met ⊕ sum .s) (met-parts (r .met) (sum .s) (r .heat .s) (v ⊛ next) (term-sum (r .heat) sum (v ⊛ next) sum-is)) (λ w. temp-is) j (λ d w. h n first temps b d) (m n first temps b) f),
+      )
+
+  -- the temperature is what it was
+  level : (q : Accumulator) → (q ≡ accumulate (r .heat) (v ⊛ r .temp)) ⊎ ((q ≡ sum) × SameValue (v ⊛ next) (v ⊛ r .temp)) → eq temp (r .temp) ≡ true → (n : ℕ) (first temps : List Float) → i + 1 < n → AsDefined n vol first i temps r → T (finite (q .s)) → q ≡ heatSum vol temp (r .bottom) (i + 2)
+  level q known e n first temps b d f =
+      let pre = start .pre in
+      level-heat n vol first i temps r (pre .0) b d v (pre .2) temp q (v ⊛ next) (known-as q _ sum _ sum-is known) f (div-fits binary64 _ _) e
+
+  each-is : (each : Float) → ((each ≡ r .each) × (eq v (r .each) ≡ true)) ⊎ (each ≡ zero-f ⊘ zero-f) → (n : ℕ) (first temps : List Float) → i + 1 < n → AsDefined n vol first i temps r → EachIs vol (r .bottom) (i + 2) each
+  each-is each (inl e) n first temps b d =
+      let pre = start .pre in
+      rw (e .0) (d .each-fits, λ m. each-more n vol first i temps r (pre .0) b d v (pre .2) v-fits (e .1))
+  each-is each (inr e) n first temps b d = rw e (div-fits binary64 zero-f zero-f, λ m. absurd (differ-nan m))
+
+add-term-requires : tie.Need-add-term-requires
+add-term-requires c κs = search needs
+
+total-of-requires : tie.Need-total-of-requires
+total-of-requires c κs = search needs
+
+total-of-requires-2 : tie.Need-total-of-requires-2
+total-of-requires-2 c κs = search needs
+
+each-with-requires : tie.Need-each-with-requires
+each-with-requires c κs = search needs
+
+add-known-requires : tie.Need-add-known-requires
+add-known-requires c κs = search needs
+
+joined-requires : tie.Need-joined-requires
+joined-requires c κs = search needs
+
+returns : tie.Need-returns
+returns c =
+    let test = c .before .before .before in
+    let each = test .before .before in
+    let w = each .before .before .before in
+    follows w (c .joined .result) (c .before .add-known .result) (each .each-with .result) (c .joined .ensures) (level w (c .before .add-known .result) (c .before .add-known .ensures) (test .if1 .taken)) (each-is w (each .each-with .result) (each .each-with .ensures))
+
+add-heat-at : tie.Need-add-heat-at
+add-heat-at c = search needs
+
+heat-at-requires : tie.Need-heat-at-requires
+heat-at-requires c κs = search needs
+
+joined-requires-2 : tie.Need-joined-requires-2
+joined-requires-2 c κs = search needs
+
+returns-2 : tie.Need-returns-2
+returns-2 c =
+    let each = c .before .before .before .before in
+    let w = each .before .before .before in
+    follows w (c .joined2 .result) (c .before .heat-at .result) (each .each-with .result) (c .joined2 .ensures) (λ n first temps b d f. c .before .heat-at .ensures) (each-is w (each .each-with .result) (each .each-with .ensures))
+
+pub join-any-spec : {M : Type 1} → statement M
+join-any-spec =
+    tie.close
+    (tie.spec
+    add-term-requires
+    total-of-requires
+    total-of-requires-2
+    each-with-requires
+    add-known-requires
+    joined-requires
+    returns
+    add-heat-at
+    heat-at-requires
+    joined-requires-2
+    returns-2)

@@ -1,0 +1,72 @@
+-- `running::join_even` meets its contract (01, Mix): by one product.
+use mathlib.Core.Path.{_≡_}
+use mathlib.Core.Bool.{true}
+use lib.Dec.{T}
+use lib.Ieee.{Float, binary64, fits}
+use lib.Ieee.Scale.{finite}
+use denote.Floats.{passes}
+use Rattle.numeric.specs.Double.{_⊛_, _⊘_}
+use Rattle.numeric.specs.Sum2.{accumulate, total}
+use Rattle.numeric.specs.declared.sum2.Accumulator.{Accumulator}
+use Rattle.layer_joining.specs.declared.RunningGroup.{RunningGroup}
+use Rattle.layer_joining.proofs.Joining.{quotient-of}
+use Rattle.layer_joining.proofs.Even.{even-kept, even-anew}
+use borrow.Author.Needs.{needs}
+use Rattle.layer_joining.proofs.join_even.Statement.{statement}
+use Rattle.layer_joining.proofs.join_even.Tie as tie
+
+-- what is worked before the ways part
+module _ (c : tie.After-total-of2) where
+  abbrev start : tie.Start
+  start = c .before .before .before
+
+  abbrev r : RunningGroup
+  r = start .args .r
+
+  abbrev sum : Accumulator
+  sum = start .args .heat
+
+  abbrev temp : Float
+  temp = c .before .total-of .result ⊘ c .total-of2 .result
+
+  v-fits : T (fits binary64 (start .args .v))
+  v-fits = passes _ (start .good .1 .1 .1 .0 .1)
+
+  temp-is : finite (sum .s) ≡ true → temp ≡ total (accumulate (r .heat) (start .args .v ⊛ start .args .next)) ⊘ total (start .args .volume)
+  temp-is f = quotient-of _ _ _ _ _ (c .before .total-of .ensures) (c .total-of2 .ensures) (start .pre .6 f)
+
+total-of-requires : tie.Need-total-of-requires
+total-of-requires c κs = search needs
+
+total-of-requires-2 : tie.Need-total-of-requires-2
+total-of-requires-2 c κs = search needs
+
+add-known-requires : tie.Need-add-known-requires
+add-known-requires c κs = search needs
+
+joined-requires : tie.Need-joined-requires
+joined-requires c κs = search needs
+
+returns : tie.Need-returns
+returns c =
+    let w = c .before .before .before .before .before in
+    let pre = start w .pre in
+    even-kept (start w .args .vol .now) (r w) (start w .args .i) (start w .args .v) (start w .args .next) (sum w) (start w .args .volume) (temp w) (v-fits w) (pre .0) (pre .2) (pre .3) (pre .4) (pre .5) (pre .6) (temp-is w) (c .joined .result) (c .before .add-known .result) (c .joined .ensures) (c .before .add-known .ensures) (c .before .before .if1 .taken)
+
+add-even-heat : tie.Need-add-even-heat
+add-even-heat c = search needs
+
+even-heat-requires : tie.Need-even-heat-requires
+even-heat-requires c κs = search needs
+
+joined-requires-2 : tie.Need-joined-requires-2
+joined-requires-2 c κs = search needs
+
+returns-2 : tie.Need-returns-2
+returns-2 c =
+    let w = c .before .before .before .before .before in
+    let pre = start w .pre in
+    even-anew (start w .args .vol .now) (r w) (start w .args .i) (start w .args .v) (start w .args .next) (sum w) (start w .args .volume) (temp w) (v-fits w) (pre .0) (pre .2) (pre .3) (pre .4) (pre .5) (pre .6) (temp-is w) (c .joined2 .result) (c .before .even-heat .result) (c .joined2 .ensures) (c .before .even-heat .ensures)
+
+pub join-even-spec : {M : Type 1} → statement M
+join-even-spec = tie.close (tie.spec total-of-requires total-of-requires-2 add-known-requires joined-requires returns add-even-heat even-heat-requires joined-requires-2 returns-2)

@@ -1,0 +1,2 @@
+-- The lemma that a proof of `repeating_layers` cites.
+mod Below

@@ -1,0 +1,65 @@
+-- `is_over_full` meets its contract (01, Refill): the layer below is found as large as the one that repeats, and full.
+use mathlib.Core.Path.{sym}
+use mathlib.Core.Bool.{true≢false}
+use borrow.Author.Tests.{not-false}
+use Rattle.repeating_layers.proofs.Below.{over-full}
+use borrow.Author.Needs.{needs}
+use Rattle.repeating_layers.proofs.is_over_full.Statement.{statement}
+use Rattle.repeating_layers.proofs.is_over_full.Tie as tie
+
+returns : tie.Need-returns
+returns c = λ e. absurd (true≢false (sym e))
+
+returns-2 : tie.Need-returns-2
+returns-2 c = λ e. absurd (true≢false (sym e))
+
+sub-is-same : tie.Need-sub-is-same
+sub-is-same c = search needs
+
+mul-is-same : tie.Need-mul-is-same
+mul-is-same c = search needs
+
+element-copy-out-is-same : tie.Need-element-copy-out-is-same
+element-copy-out-is-same c = search needs
+
+is-same-requires : tie.Need-is-same-requires
+is-same-requires c κs = search needs
+
+returns-3 : tie.Need-returns-3
+returns-3 c = λ e. absurd (true≢false (sym e))
+
+sub-is-same-2 : tie.Need-sub-is-same-2
+sub-is-same-2 c = search needs
+
+mul-is-same-2 : tie.Need-mul-is-same-2
+mul-is-same-2 c = search needs
+
+element-copy-out-is-same-2 : tie.Need-element-copy-out-is-same-2
+element-copy-out-is-same-2 c = search needs
+
+is-same-requires-2 : tie.Need-is-same-requires-2
+is-same-requires-2 c κs = search needs
+
+returns-4 : tie.Need-returns-4
+returns-4 c =
+    let second = c .before .before in
+    let first = second .before .before .before .before in
+    let start = first .before .before in
+    λ e. over-full _ _ _ (start .args .kept) (start .pre .1 (not-false _ (first .if1 .left))) (second .before .before .before .if2 .left) (second .before .is-same .ensures .1 (not-false _ (second .if3 .left))) (c .is-same2 .ensures .1 e)
+
+pub is-over-full-spec : {M : Type 1} → statement M
+is-over-full-spec =
+    tie.close
+    (tie.spec
+    returns
+    returns-2
+    sub-is-same
+    mul-is-same
+    element-copy-out-is-same
+    is-same-requires
+    returns-3
+    sub-is-same-2
+    mul-is-same-2
+    element-copy-out-is-same-2
+    is-same-requires-2
+    returns-4)

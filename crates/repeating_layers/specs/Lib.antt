@@ -1,0 +1,2 @@
+-- The definitions of `repeating_layers`: layers that repeat (01, Refill).
+pub mod Repeats

@@ -1,0 +1,47 @@
+-- `lower_of` meets its contract, case by case; zero over zero is not a number.
+use lib.Ieee.{ofBits, div}
+use Rattle.set_points.specs.SetPoints.{lowerOf}
+use borrow.Author.Needs.{needs}
+use Rattle.set_points.proofs.lower_of.Statement.{statement}
+use Rattle.set_points.proofs.lower_of.Tie as tie
+
+enum-told : tie.Need-enum-told
+enum-told c = search needs
+
+enum-known-p : tie.Need-enum-known-p
+enum-known-p c = search needs
+
+enum-told-2 : tie.Need-enum-told-2
+enum-told-2 c = search needs
+
+enum-known-p-2 : tie.Need-enum-known-p-2
+enum-known-p-2 c = search needs
+
+returns : tie.Need-returns
+unfolding lowerOf ofBits div
+returns c = rw (c .enum-told .given .1)
+
+returns-2 : tie.Need-returns-2
+unfolding lowerOf
+returns-2 c = rw (c .before .p .given .1)
+
+returns-3 : tie.Need-returns-3
+unfolding lowerOf ofBits div
+returns-3 c = rw (c .enum-told2 .given .1)
+
+returns-4 : tie.Need-returns-4
+unfolding lowerOf
+returns-4 c = rw (c .before .p2 .given .1)
+
+pub lower-of-spec : {M : Type 1} → statement M
+lower-of-spec =
+    tie.close
+    (tie.spec
+    enum-told
+    enum-known-p
+    enum-told-2
+    enum-known-p-2
+    returns
+    returns-2
+    returns-3
+    returns-4)

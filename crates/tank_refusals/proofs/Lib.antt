@@ -1,0 +1,2 @@
+-- What is refused by the parts of the checks.
+pub mod FirstRefusal

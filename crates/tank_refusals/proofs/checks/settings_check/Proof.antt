@@ -1,0 +1,59 @@
+-- `settings_check` meets its contract (01, The four calls: 8). The loop's invariant: the set points before h pass.
+use mathlib.Core.Path.{ap, _∙_}
+use Prim.Native.Nat.{ℕ, _-_}
+use lib.ListN.{getD}
+use Rattle.tank_model.specs.FirstRefusal.{Searched, searched-start, searched-turn, searched-stop, searched-end}
+use Rattle.tank_model.specs.Checks.{pointsCheck, noSetting}
+use Rattle.tank_arrays.specs.Arrays.{settingsIn}
+use borrow.Author.Needs.{needs}
+use Rattle.tank_refusals.proofs.checks.settings_check.Statement.{statement}
+use Rattle.tank_refusals.proofs.checks.settings_check.Tie as tie
+
+abbrev Inv-loop : tie.InvT-loop
+Inv-loop n present points h₀ h = Searched (λ (k : ℕ). pointsCheck (getD (settingsIn present points) k noSetting .points)) n h
+
+abbrev μ-loop : tie.MeasureT-loop
+μ-loop n present points h₀ h = n - h
+
+loop-holds : tie.Need-loop-holds Inv-loop μ-loop
+loop-holds c = searched-start _ _
+
+points-at-requires : tie.Need-points-at-requires Inv-loop μ-loop
+points-at-requires c κs = search needs
+
+points-check-requires : tie.Need-points-check-requires Inv-loop μ-loop
+points-check-requires c κs = search needs
+
+returns : tie.Need-returns Inv-loop μ-loop
+returns c =
+    let test = c .before .before .before in
+    searched-stop _ _ _ _ (test .loop-test .taken) (c .before .points-check .ensures ∙ ap pointsCheck (c .before .before .points-at .ensures)) (c .if1 .taken) (test .before .loop .inv)
+
+add-h : tie.Need-add-h Inv-loop μ-loop
+add-h c = search needs
+
+loop-less : tie.Need-loop-less Inv-loop μ-loop
+loop-less c = search needs
+
+loop-again : tie.Need-loop-again Inv-loop μ-loop
+loop-again c =
+    let test = c .before .before .before in
+    searched-turn _ _ _ _ (test .loop-test .taken) (c .before .points-check .ensures ∙ ap pointsCheck (c .before .before .points-at .ensures)) (c .if1 .left) (test .before .loop .inv)
+
+returns-2 : tie.Need-returns-2 Inv-loop μ-loop
+returns-2 c = searched-end _ _ _ (c .loop-test .left) (c .before .loop .inv)
+
+pub settings-check-spec : {M : Type 1} → statement M
+settings-check-spec =
+    tie.close
+    (tie.spec
+    Inv-loop
+    μ-loop
+    loop-holds
+    points-at-requires
+    points-check-requires
+    returns
+    add-h
+    loop-less
+    loop-again
+    returns-2)

@@ -1,0 +1,38 @@
+-- `make_refusal` meets its contract (01, The four calls): what the checks 1 to 5 decide.
+use Rattle.tank_model.specs.Checks.{makeRefusal}
+use Rattle.tank_arrays.proofs.LentArrays.{heaters-back}
+use borrow.Author.Needs.{needs}
+use Rattle.tank_refusals.proofs.refusals.make_refusal.Statement.{statement}
+use Rattle.tank_refusals.proofs.refusals.make_refusal.Tie as tie
+
+cylinder-of-requires : tie.Need-cylinder-of-requires
+cylinder-of-requires c κs = search needs
+
+heaters-of-requires : tie.Need-heaters-of-requires
+heaters-of-requires c κs = search needs
+
+thermostats-of-requires : tie.Need-thermostats-of-requires
+thermostats-of-requires c κs = search needs
+
+is-finite-requires : tie.Need-is-finite-requires
+is-finite-requires c κs = search needs
+
+tank-refusal-requires : tie.Need-tank-refusal-requires
+tank-refusal-requires c κs = search needs
+
+returns : tie.Need-returns
+unfolding makeRefusal
+returns c =
+    let h = c .before .before .before .before .before .heaters-of .ensures in
+    rw (c .before .before .before .before .before .before .before .cylinder-of .ensures, c .before .before .before .is-finite .ensures, h .0, c .before .before .before .before .thermostats-of .ensures, heaters-back _ (h .1)) at (c .tank-refusal .ensures)
+
+pub make-refusal-spec : {M : Type 1} → statement M
+make-refusal-spec =
+    tie.close
+    (tie.spec
+    cylinder-of-requires
+    heaters-of-requires
+    thermostats-of-requires
+    is-finite-requires
+    tank-refusal-requires
+    returns)

@@ -1,0 +1,2 @@
+-- The lemmas that the proofs of `thermal_losses` share.
+mod Layer

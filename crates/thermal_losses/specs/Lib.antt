@@ -1,0 +1,2 @@
+-- The definitions of `thermal_losses`: losses and limit of all layers (01, Losses and limit).
+pub mod Losses
