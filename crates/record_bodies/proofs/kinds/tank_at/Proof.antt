@@ -1,9 +1,9 @@
--- `read::tank_at` meets its contract (01, Job): length, then place, then the numbers.
+-- `kinds::tank_at` meets its contract (01, Job): length, then place, then the numbers.
 use borrow.Author.Tests.{eq-eqb, ne-eqb}
 use Rattle.job_records.specs.Records.{tankAt}
 use borrow.Author.Needs.{needs}
-use Rattle.job_reader.proofs.read.tank_at.Statement.{statement}
-use Rattle.job_reader.proofs.read.tank_at.Tie as tie
+use Rattle.record_bodies.proofs.kinds.tank_at.Statement.{statement}
+use Rattle.record_bodies.proofs.kinds.tank_at.Tie as tie
 
 refused-requires : tie.Need-refused-requires
 refused-requires c κs = search needs

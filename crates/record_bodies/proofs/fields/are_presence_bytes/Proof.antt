@@ -4,8 +4,8 @@ use borrow.Author.Tests.{lt-leb, le-leb}
 use Rattle.numeric.specs.Holds.{Passed, passed-start, passed-next, passed-fails, passed-end}
 use Rattle.job_records.specs.Fields.{isPresenceAt}
 use borrow.Author.Needs.{needs}
-use Rattle.job_reader.proofs.fields.are_presence_bytes.Statement.{statement}
-use Rattle.job_reader.proofs.fields.are_presence_bytes.Tie as tie
+use Rattle.record_bodies.proofs.fields.are_presence_bytes.Statement.{statement}
+use Rattle.record_bodies.proofs.fields.are_presence_bytes.Tie as tie
 
 abbrev Inv-loop : tie.InvT-loop
 Inv-loop s at n k₀ k = Passed (isPresenceAt s at) n k

@@ -7,8 +7,8 @@ use Rattle.tank_model.specs.Checks.{noSetting}
 use Rattle.job_records.specs.Fields.{filled, noSettings, settingAt, settingsAt}
 use Rattle.job_records.proofs.Filling.{filled-next}
 use borrow.Author.Needs.{needs}
-use Rattle.job_reader.proofs.fields.settings_at.Statement.{statement}
-use Rattle.job_reader.proofs.fields.settings_at.Tie as tie
+use Rattle.record_bodies.proofs.fields.settings_at.Statement.{statement}
+use Rattle.record_bodies.proofs.fields.settings_at.Tie as tie
 
 abbrev Inv-loop : tie.InvT-loop
 Inv-loop s at n settings₀ k₀ settings k = (k ≤ n) × (settings ≡ filled (settingAt s at) k noSettings)

@@ -1,9 +1,9 @@
--- `read::record_at` meets its contract (01, Job): by the two bytes of the kind.
+-- `kinds::record_at` meets its contract (01, Job): by the two bytes of the kind.
 use borrow.Author.Tests.{ne-eqb}
 use Rattle.job_records.specs.Records.{byKind}
 use borrow.Author.Needs.{needs}
-use Rattle.job_reader.proofs.read.record_at.Statement.{statement}
-use Rattle.job_reader.proofs.read.record_at.Tie as tie
+use Rattle.record_bodies.proofs.kinds.record_at.Statement.{statement}
+use Rattle.record_bodies.proofs.kinds.record_at.Tie as tie
 
 add-u16-at : tie.Need-add-u16-at
 add-u16-at c = search needs

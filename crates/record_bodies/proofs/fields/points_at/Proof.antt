@@ -2,8 +2,8 @@
 use borrow.Author.Tests.{ne-eqb}
 use Rattle.job_records.specs.Fields.{pointsOf, pointsAt}
 use borrow.Author.Needs.{needs}
-use Rattle.job_reader.proofs.fields.points_at.Statement.{statement}
-use Rattle.job_reader.proofs.fields.points_at.Tie as tie
+use Rattle.record_bodies.proofs.fields.points_at.Statement.{statement}
+use Rattle.record_bodies.proofs.fields.points_at.Tie as tie
 
 shared-slice-read-presence : tie.Need-shared-slice-read-presence
 shared-slice-read-presence c = search needs

@@ -1,11 +1,11 @@
--- `read::step_at` meets its contract (01, Job): length, then place, then the presence bytes. Without room for the count of volumes no length is right.
+-- `kinds::step_at` meets its contract (01, Job): length, then place, then the presence bytes. Without room for the count of volumes no length is right.
 use mathlib.Core.Path.{sym, _∙_}
 use native.Mathlib.Omega.{arith}
 use borrow.Author.Tests.{eq-eqb, ne-eqb, not-true, not-false}
 use Rattle.job_records.specs.Records.{stepAt, stepReadingAt, stepSizeAt}
 use borrow.Author.Needs.{needs}
-use Rattle.job_reader.proofs.read.step_at.Statement.{statement}
-use Rattle.job_reader.proofs.read.step_at.Tie as tie
+use Rattle.record_bodies.proofs.kinds.step_at.Statement.{statement}
+use Rattle.record_bodies.proofs.kinds.step_at.Tie as tie
 
 refused-requires : tie.Need-refused-requires
 refused-requires c κs = search needs

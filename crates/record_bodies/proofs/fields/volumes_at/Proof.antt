@@ -8,8 +8,8 @@ use Rattle.job_records.specs.Bytes.{doubleAt}
 use Rattle.job_records.specs.Fields.{filled, noVolumes, volumesAt}
 use Rattle.job_records.proofs.Filling.{filled-next}
 use borrow.Author.Needs.{needs}
-use Rattle.job_reader.proofs.fields.volumes_at.Statement.{statement}
-use Rattle.job_reader.proofs.fields.volumes_at.Tie as tie
+use Rattle.record_bodies.proofs.fields.volumes_at.Statement.{statement}
+use Rattle.record_bodies.proofs.fields.volumes_at.Tie as tie
 
 abbrev Inv-loop : tie.InvT-loop
 Inv-loop s at n volumes₀ i₀ volumes i = (i ≤ n) × (volumes ≡ filled (λ (j : ℕ). doubleAt s (at + 8 * j)) i noVolumes)

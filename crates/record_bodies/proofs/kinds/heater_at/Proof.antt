@@ -1,9 +1,9 @@
--- `read::heater_at` meets its contract (01, Job): length, then place, then the presence byte.
+-- `kinds::heater_at` meets its contract (01, Job): length, then place, then the presence byte.
 use borrow.Author.Tests.{eq-eqb, ne-eqb, lt-leb, le-leb, not-true, not-false}
 use Rattle.job_records.specs.Records.{heaterAt}
 use borrow.Author.Needs.{needs}
-use Rattle.job_reader.proofs.read.heater_at.Statement.{statement}
-use Rattle.job_reader.proofs.read.heater_at.Tie as tie
+use Rattle.record_bodies.proofs.kinds.heater_at.Statement.{statement}
+use Rattle.record_bodies.proofs.kinds.heater_at.Tie as tie
 
 refused-requires : tie.Need-refused-requires
 refused-requires c κs = search needs

@@ -1,9 +1,9 @@
--- `read::step_volumes` meets its contract (01, Job): past 64 volumes only their count is kept.
+-- `kinds::step_volumes` meets its contract (01, Job): past 64 volumes only their count is kept.
 use borrow.Author.Tests.{lt-leb, le-leb}
 use Rattle.job_records.specs.Fields.{stepVolumesAt}
 use borrow.Author.Needs.{needs}
-use Rattle.job_reader.proofs.read.step_volumes.Statement.{statement}
-use Rattle.job_reader.proofs.read.step_volumes.Tie as tie
+use Rattle.record_bodies.proofs.kinds.step_volumes.Statement.{statement}
+use Rattle.record_bodies.proofs.kinds.step_volumes.Tie as tie
 
 returns : tie.Need-returns
 unfolding stepVolumesAt

@@ -1,9 +1,9 @@
--- `read::heater_record` meets its contract (01, Job): the thermostat by the presence byte.
+-- `kinds::heater_record` meets its contract (01, Job): the thermostat by the presence byte.
 use borrow.Author.Tests.{eq-eqb, ne-eqb}
 use Rattle.job_records.specs.Records.{heaterRecordAt}
 use borrow.Author.Needs.{needs}
-use Rattle.job_reader.proofs.read.heater_record.Statement.{statement}
-use Rattle.job_reader.proofs.read.heater_record.Tie as tie
+use Rattle.record_bodies.proofs.kinds.heater_record.Statement.{statement}
+use Rattle.record_bodies.proofs.kinds.heater_record.Tie as tie
 
 add-f64-at : tie.Need-add-f64-at
 add-f64-at c = search needs
