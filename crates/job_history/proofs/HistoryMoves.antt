@@ -7,22 +7,22 @@ use lib.ListN.{length}
 use Rattle.job_records.specs.declared.Record.{Record}
 use Rattle.job_records.specs.declared.Record.the-variants.{Tank, Heater as HeaterCase, Step as StepCase, Refused}
 use Rattle.job_records.specs.declared.Reading.{Reading}
-use Rattle.job_run.specs.declared.Job.{Job}
-use Rattle.job_run.specs.Job.{readingOf, stepOutcome, outcomeOf, outcome}
-use Rattle.job_run.proofs.Moves.{Moves, record-moves}
-use Rattle.job_run.proofs.Ends.{run-ends}
+use Rattle.job_model.specs.declared.Job.{Job}
+use Rattle.job_model.specs.Job.{readingOf, stepRun, runOf, recordRun}
+use Rattle.job_model.proofs.Moves.{Moves, record-moves}
+use Rattle.job_model.proofs.Ends.{run-ends}
 use Rattle.job_history.specs.History.{historyStep, historyOf, historyOutcome, historyRun}
 
-job-of : (bytes : List ℕ) (j : Job) (r : Reading) (x : Record) → historyOf bytes j r x .job ≡ outcomeOf bytes j r x .job
-unfolding historyOf outcomeOf historyStep stepOutcome
+job-of : (bytes : List ℕ) (j : Job) (r : Reading) (x : Record) → historyOf bytes j r x .job ≡ runOf bytes j r x .job
+unfolding historyOf runOf historyStep stepRun
 job-of bytes j r (Tank t) = refl
 job-of bytes j r (HeaterCase h) = refl
 job-of bytes j r (StepCase p) = refl
 job-of bytes j r Refused = refl
 
 -- the job after a record is the same
-pub history-job : (bytes : List ℕ) (j : Job) → historyOutcome bytes j .job ≡ outcome bytes j .job
-unfolding historyOutcome outcome
+pub history-job : (bytes : List ℕ) (j : Job) → historyOutcome bytes j .job ≡ recordRun bytes j .job
+unfolding historyOutcome recordRun
 history-job bytes j = job-of bytes j (readingOf bytes j) (readingOf bytes j .content)
 
 pub history-moves : (bytes : List ℕ) (j : Job) → Moves j (length bytes) (historyOutcome bytes j)

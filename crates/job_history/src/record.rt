@@ -1,9 +1,9 @@
 // One record of a job's history: the tank made, a heater added, a step's turns, or the end.
-ghost use Rattle.job_run.specs.Job.{Countable, Gives};
+ghost use Rattle.job_model.specs.Job.{Countable, Gives};
 ghost use Rattle.job_history.specs.History.{historyStep, historyOutcome};
+use job_model::Job;
+use job_model::Printed;
 use job_records::Record;
-use job_run::Job;
-use job_run::Printed;
 use tank_model::Step;
 
 // A step's turns; the job goes on as it does when it prints its figures.

@@ -6,9 +6,9 @@ use mathlib.Core.List.{List}
 use mathlib.Core.Logic.{inl, inr}
 use mathlib.Core.Path.{_≡_, refl}
 use lib.ListN.{length}
-use Rattle.job_run.specs.declared.Job.{Job}
-use Rattle.job_run.specs.Job.{Outcome, startJob, outcome, runFrom, runAll, jobRun}
-use Rattle.job_run.proofs.Moves.{Moves, record-moves}
+use Rattle.job_model.specs.declared.Job.{Job}
+use Rattle.job_model.specs.Job.{RecordRun, startJob, recordRun, runFrom, runAll, jobRun}
+use Rattle.job_model.proofs.Moves.{Moves, record-moves}
 
 -- a job stands within its input of `size` bytes, and has counted no more steps than records can have passed
 pub record Within (size : ℕ) (j : Job) : Type 0 where
@@ -23,25 +23,25 @@ pub start-within : (size : ℕ) → Within size startJob
 start-within size = record { placed = omega arith; counted = omega arith }
 
 -- an f of any kind that moves as a record does
-module _ (f : Job → Outcome) (size : ℕ) (moves : (j : Job) → Moves j size (f j)) (j : Job) (w : Within size j) where
+module _ (f : Job → RecordRun) (size : ℕ) (moves : (j : Job) → Moves j size (f j)) (j : Job) (w : Within size j) where
   pub record-within : Within size (f j .job)
   record-within = go (f j) (moves j)
     where
-      go : (t : Outcome) → Moves j size t → Within size (t .job)
+      go : (t : RecordRun) → Moves j size t → Within size (t .job)
       go t (inl e) = record { placed = rw (e .1) (w .placed); counted = rw (e .1, e .2, e .3) (w .counted) }
       go t (inr m) = let c = w .counted in let p = m .1 in let q = m .3 in let b = m .4 in record { placed = m .2; counted = omega arith }
 
   pub record-before : f j .job .before ≡ j .before
   record-before = go (f j) (moves j)
     where
-      go : (t : Outcome) → Moves j size t → t .job .before ≡ j .before
+      go : (t : RecordRun) → Moves j size t → t .job .before ≡ j .before
       go t (inl e) = e .3
       go t (inr m) = m .4
 
   pub record-less : j .ended ≡ false → recordsLeft size (f j .job .ended) (f j .job .at) < size - j .at + 1
   record-less e = go (f j) (moves j)
     where
-      go : (t : Outcome) → Moves j size t → recordsLeft size (t .job .ended) (t .job .at) < size - j .at + 1
+      go : (t : RecordRun) → Moves j size t → recordsLeft size (t .job .ended) (t .job .at) < size - j .at + 1
       go t (inl e) = rw (e .0) (omega arith)
       go t (inr m) = let p = m .1 in let l = m .2 in rw (m .0, e) (omega arith)
 
@@ -52,7 +52,7 @@ module _ (f : Job → Outcome) (size : ℕ) (moves : (j : Job) → Moves j size 
       below : (b : Bool) → b ≡ false → {n : ℕ} → n < size - j .at + 1 → n < recordsLeft size b (j .at)
       below b g l = rw g (omega arith)
 
-module _ (f : Job → Outcome) (size : ℕ) (moves : (j : Job) → Moves j size (f j)) where
+module _ (f : Job → RecordRun) (size : ℕ) (moves : (j : Job) → Moves j size (f j)) where
   -- with records enough, the job after them has ended
   from-ends : (k : ℕ) (ended : Bool) (j : Job) → j .ended ≡ ended → Within size j → recordsLeft size ended (j .at) ≤ k → runFrom f k ended j .job .ended ≡ true
   unfolding runFrom
@@ -70,4 +70,4 @@ module _ (f : Job → Outcome) (size : ℕ) (moves : (j : Job) → Moves j size 
 
 -- the law
 pub job-ends : (bytes : List ℕ) → jobRun bytes .job .ended ≡ true
-job-ends bytes = run-ends (outcome bytes) (length bytes) (λ j. record-moves j bytes)
+job-ends bytes = run-ends (recordRun bytes) (length bytes) (λ j. record-moves j bytes)

@@ -28,8 +28,8 @@ use Rattle.job_records.specs.Values.{zeroTankRecord, numberIn}
 use Rattle.job_lines.specs.Put.{written}
 use Rattle.job_lines.specs.Lengths.{maxText}
 use Rattle.job_lines.specs.Lines.{refusalLine, stepLines}
-use Rattle.job_run.specs.declared.Job.{Job}
-use Rattle.job_run.specs.declared.Printed.{Printed}
+use Rattle.job_model.specs.declared.Job.{Job}
+use Rattle.job_model.specs.declared.Printed.{Printed}
 
 -- ---- what records hold
 
@@ -78,13 +78,13 @@ startJob = record { before = 0; at = 0; ended = false; «has_tank» = false; ste
 
 -- ---- one record
 
--- the job after a record, and what the record prints
-pub record Outcome : Type 0 where
+-- the job after a record, or after several, and what they print
+pub record RecordRun : Type 0 where
   pub job : Job
   pub text : List ℕ
 
--- a function's answer and its lent buffer are an outcome's job and text, which is never long
-pub record Gives (t : Outcome) (before after : List ℕ) (r : Printed) : Type 0 where
+-- a function's answer and its lent buffer are a run's job and text, which is never long
+pub record Gives (t : RecordRun) (before after : List ℕ) (r : Printed) : Type 0 where
   pub goes : r .job ≡ t .job
   pub counts : r .length ≡ length (t .text)
   pub prints : after ≡ written before (t .text)
@@ -111,68 +111,68 @@ abbrev pub Countable : Job → Type 0
 Countable j = (16 * j .steps ≤ offsetOf j) × (offsetOf j < 9223372036854775808)
 
 -- a refusal outside a step prints its number and the record's start, and ends the program
-unfoldable pub refusedOutcome : Job → ℕ → Outcome
-refusedOutcome j number = record { job = endedJob j; text = refusalLine number (offsetOf j) }
+unfoldable pub refusedRun : Job → ℕ → RecordRun
+refusedRun j number = record { job = endedJob j; text = refusalLine number (offsetOf j) }
 
 -- a number other than 0 is a refusal
-abbrev pub unlessRefused : Job → ℕ → Outcome → Outcome
-unlessRefused j number t = cond (eqb number 0) t (refusedOutcome j number)
+abbrev pub unlessRefused : Job → ℕ → RecordRun → RecordRun
+unlessRefused j number t = cond (eqb number 0) t (refusedRun j number)
 
 abbrev pub withTank : Job → ℕ → TankDesign → StorageTank → Job
 withTank j next d t = record { before = j .before; at = next; ended = j .ended; «has_tank» = true; steps = j .steps; design = d; tank = t; report = j .report }
 
 -- the tank made, or the number of make's refusal
-unfoldable pub madeOutcome : Job → ℕ → TankDesign → Outcome
-madeOutcome j next d = let m = made d in unlessRefused j (m .number) (record { job = withTank j next d (m .tank); text = [] })
+unfoldable pub madeRun : Job → ℕ → TankDesign → RecordRun
+madeRun j next d = let m = made d in unlessRefused j (m .number) (record { job = withTank j next d (m .tank); text = [] })
 
 -- 2 and 5 come at the heater's record, with the newcomer in: 2 before it is fitted, 5 where the tank is made
-unfoldable pub heaterOutcome : Job → ℕ → Heater → Outcome
-heaterOutcome j next h = unlessRefused j (heatersCheck (j .design .heaters + 1)) (madeOutcome j next (withHeater (j .design) h))
+unfoldable pub heaterRun : Job → ℕ → Heater → RecordRun
+heaterRun j next h = unlessRefused j (heatersCheck (j .design .heaters + 1)) (madeRun j next (withHeater (j .design) h))
 
 abbrev pub afterStep : Job → ℕ → StorageTank → Report → Job
 afterStep j next t r =
     record { before = j .before; at = next; ended = j .ended; «has_tank» = j .«has_tank»; steps = j .steps + 1; design = j .design; tank = t; report = r }
 
 -- a step's lines; refused or not, the job goes on and the index counts it
-unfoldable pub stepOutcome : Job → ℕ → Step → Outcome
-stepOutcome j next a =
+unfoldable pub stepRun : Job → ℕ → Step → RecordRun
+stepRun j next a =
     let s = stepped (j .tank) (j .report) a in
     record { job = afterStep j next (s .tank) (s .report); text = stepLines (j .steps) s }
 
 -- the input's end ends the program; empty input, and any other refused record, is refused with the number of the reader's answer
-unfoldable pub endOutcome : ℕ → Job → ℕ → Outcome
-endOutcome size j number = cond (eqb (j .at) size && not (eqb (offsetOf j) 0)) (record { job = endedJob j; text = [] }) (refusedOutcome j number)
+unfoldable pub endRun : ℕ → Job → ℕ → RecordRun
+endRun size j number = cond (eqb (j .at) size && not (eqb (offsetOf j) 0)) (record { job = endedJob j; text = [] }) (refusedRun j number)
 
-unfoldable pub outcomeOf : List ℕ → Job → Reading → Record → Outcome
-outcomeOf bytes j r (Tank t) = madeOutcome j (r .next) (designOf t)
-outcomeOf bytes j r (HeaterCase h) = heaterOutcome j (r .next) h
-outcomeOf bytes j r (StepCase p) = stepOutcome j (r .next) (stepOf p (r .volumes) (r .settings))
-outcomeOf bytes j r Refused = endOutcome (length bytes) j (numberIn Refused)
+unfoldable pub runOf : List ℕ → Job → Reading → Record → RecordRun
+runOf bytes j r (Tank t) = madeRun j (r .next) (designOf t)
+runOf bytes j r (HeaterCase h) = heaterRun j (r .next) h
+runOf bytes j r (StepCase p) = stepRun j (r .next) (stepOf p (r .volumes) (r .settings))
+runOf bytes j r Refused = endRun (length bytes) j (numberIn Refused)
 
 abbrev pub readingOf : List ℕ → Job → Reading
 readingOf bytes j = readRecord bytes (j .at) (j .«has_tank») (j .design .heaters) (not (eqb (j .steps) 0))
 
-unfoldable pub outcome : List ℕ → Job → Outcome
-outcome bytes j = outcomeOf bytes j (readingOf bytes j) (readingOf bytes j .content)
+unfoldable pub recordRun : List ℕ → Job → RecordRun
+recordRun bytes j = runOf bytes j (readingOf bytes j) (readingOf bytes j .content)
 
 -- ---- the whole job
 
 -- one record, then what follows it
-abbrev pub followed : Outcome → Outcome → Outcome
+abbrev pub followed : RecordRun → RecordRun → RecordRun
 followed t u = record { job = u .job; text = t .text ++ u .text }
 
 -- the records from here on, so many at most: the job after them, and all that they print
-unfoldable pub runFrom : (Job → Outcome) → ℕ → Bool → Job → Outcome
+unfoldable pub runFrom : (Job → RecordRun) → ℕ → Bool → Job → RecordRun
 runFrom f zero ended j = record { job = j; text = [] }
 runFrom f (suc k) true j = record { job = j; text = [] }
 runFrom f (suc k) false j = let t = f j in followed t (runFrom f k (t .job .ended) (t .job))
 
 -- a whole input of `size` bytes: each record but the last moves the position, so there are no more records than bytes, and one
-unfoldable pub runAll : (Job → Outcome) → ℕ → Outcome
+unfoldable pub runAll : (Job → RecordRun) → ℕ → RecordRun
 runAll f size = runFrom f (size + 1) false startJob
 
-abbrev pub jobRun : List ℕ → Outcome
-jobRun bytes = runAll (outcome bytes) (length bytes)
+abbrev pub jobRun : List ℕ → RecordRun
+jobRun bytes = runAll (recordRun bytes) (length bytes)
 
 -- all that a job prints
 abbrev pub jobText : List ℕ → List ℕ

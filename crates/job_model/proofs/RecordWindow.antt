@@ -21,16 +21,16 @@ use Rattle.job_records.specs.Records.{refusedAt}
 use Rattle.job_records.specs.Windows.{Window, AreBytes, maxRecord, movedTo}
 use Rattle.job_records.proofs.ReadLaws.{read-either, well-formed-moves}
 use Rattle.job_records.proofs.WindowLaws.{window-reads}
-use Rattle.job_run.specs.declared.Job.{Job}
-use Rattle.job_run.specs.Job.{Outcome, designOf, withHeater, stepOf, offsetOf, readingOf, endedJob, withTank, refusedOutcome, madeOutcome, heaterOutcome, stepOutcome, endOutcome, outcomeOf, outcome}
-use Rattle.job_run.specs.Windows.{inWhole, outcomeInWhole}
+use Rattle.job_model.specs.declared.Job.{Job}
+use Rattle.job_model.specs.Job.{RecordRun, designOf, withHeater, stepOf, offsetOf, readingOf, endedJob, withTank, refusedRun, madeRun, heaterRun, stepRun, endRun, runOf, recordRun}
+use Rattle.job_model.specs.Windows.{inWhole, runInWhole}
 
 -- the record at a window's position can be read there: nothing follows the window, or no record reaches past it
 abbrev pub Ready : List ℕ → List ℕ → Job → Type 0
 Ready s w j = (j .before + length w ≡ length s) ⊎ (j .at + maxRecord ≤ length w)
 
 -- a choice made alike on both sides
-alike : (b : Bool) (x y x′ y′ : Outcome) → x ≡ outcomeInWhole x′ → y ≡ outcomeInWhole y′ → cond b x y ≡ outcomeInWhole (cond b x′ y′)
+alike : (b : Bool) (x y x′ y′ : RecordRun) → x ≡ runInWhole x′ → y ≡ runInWhole y′ → cond b x y ≡ runInWhole (cond b x′ y′)
 alike true x y x′ y′ p q = p
 alike false x y x′ y′ p q = q
 
@@ -38,29 +38,29 @@ module _ (j : Job) where
   same-offset : 0 + offsetOf j ≡ offsetOf j
   same-offset = omega arith
 
-  refused-whole : (n : ℕ) → refusedOutcome (inWhole j) n ≡ outcomeInWhole (refusedOutcome j n)
-  unfolding refusedOutcome
+  refused-whole : (n : ℕ) → refusedRun (inWhole j) n ≡ runInWhole (refusedRun j n)
+  unfolding refusedRun
   refused-whole n = rw same-offset
 
   module _ (next : ℕ) (l : j .at ≤ next) where
     pub same-next : offsetOf j + (next - j .at) ≡ j .before + next
     same-next = omega arith
 
-    made-whole : (d : TankDesign) → madeOutcome (inWhole j) (offsetOf j + (next - j .at)) d ≡ outcomeInWhole (madeOutcome j next d)
-    unfolding madeOutcome
+    made-whole : (d : TankDesign) → madeRun (inWhole j) (offsetOf j + (next - j .at)) d ≡ runInWhole (madeRun j next d)
+    unfolding madeRun
     made-whole d =
         let m = made d in
-        rw same-next (alike (eqb (m .number) 0) (record { job = withTank (inWhole j) (j .before + next) d (m .tank); text = [] }) (refusedOutcome (inWhole j) (m .number)) (record { job = withTank j next d (m .tank); text = [] }) (refusedOutcome j (m .number)) refl (refused-whole (m .number)))
+        rw same-next (alike (eqb (m .number) 0) (record { job = withTank (inWhole j) (j .before + next) d (m .tank); text = [] }) (refusedRun (inWhole j) (m .number)) (record { job = withTank j next d (m .tank); text = [] }) (refusedRun j (m .number)) refl (refused-whole (m .number)))
 
-    heater-whole : (h : Heater) → heaterOutcome (inWhole j) (offsetOf j + (next - j .at)) h ≡ outcomeInWhole (heaterOutcome j next h)
-    unfolding heaterOutcome
+    heater-whole : (h : Heater) → heaterRun (inWhole j) (offsetOf j + (next - j .at)) h ≡ runInWhole (heaterRun j next h)
+    unfolding heaterRun
     heater-whole h =
         let d = withHeater (j .design) h in
         let n = heatersCheck (j .design .heaters + 1) in
-        alike (eqb n 0) (madeOutcome (inWhole j) (offsetOf j + (next - j .at)) d) (refusedOutcome (inWhole j) n) (madeOutcome j next d) (refusedOutcome j n) (made-whole d) (refused-whole n)
+        alike (eqb n 0) (madeRun (inWhole j) (offsetOf j + (next - j .at)) d) (refusedRun (inWhole j) n) (madeRun j next d) (refusedRun j n) (made-whole d) (refused-whole n)
 
-    step-whole : (a : Step) → stepOutcome (inWhole j) (offsetOf j + (next - j .at)) a ≡ outcomeInWhole (stepOutcome j next a)
-    unfolding stepOutcome
+    step-whole : (a : Step) → stepRun (inWhole j) (offsetOf j + (next - j .at)) a ≡ runInWhole (stepRun j next a)
+    unfolding stepRun
     step-whole a = rw same-next
 
 module _ (s w : List ℕ) (j : Job) (placed : j .at ≤ length w) (inside : j .before + length w ≤ length s) (ready : Ready s w j) where
@@ -75,14 +75,14 @@ module _ (s w : List ℕ) (j : Job) (placed : j .at ≤ length w) (inside : j .b
       go (inl e) = by-test e (eqb (j .at) (length w)) refl
       go (inr l) = rw (ne-eqb (offsetOf j) (length s) (λ e. omega arith), ne-eqb (j .at) (length w) (λ e. omega arith))
 
-  end-whole : (n : ℕ) → endOutcome (length s) (inWhole j) n ≡ outcomeInWhole (endOutcome (length w) j n)
-  unfolding endOutcome
+  end-whole : (n : ℕ) → endRun (length s) (inWhole j) n ≡ runInWhole (endRun (length w) j n)
+  unfolding endRun
   end-whole n =
       rw (same-offset j, same-end)
-      (alike (eqb (j .at) (length w) && not (eqb (offsetOf j) 0)) (record { job = endedJob (inWhole j); text = [] }) (refusedOutcome (inWhole j) n) (record { job = endedJob j; text = [] }) (refusedOutcome j n) refl (refused-whole j n))
+      (alike (eqb (j .at) (length w) && not (eqb (offsetOf j) 0)) (record { job = endedJob (inWhole j); text = [] }) (refusedRun (inWhole j) n) (record { job = endedJob j; text = [] }) (refusedRun j n) refl (refused-whole j n))
 
-  pub of-whole : (r : Reading) → j .at ≤ r .next → (x : Record) → outcomeOf s (inWhole j) (movedTo (j .at) (offsetOf j) r) x ≡ outcomeInWhole (outcomeOf w j r x)
-  unfolding outcomeOf
+  pub of-whole : (r : Reading) → j .at ≤ r .next → (x : Record) → runOf s (inWhole j) (movedTo (j .at) (offsetOf j) r) x ≡ runInWhole (runOf w j r x)
+  unfolding runOf
   of-whole r l (Tank t) = made-whole j (r .next) l (designOf t)
   of-whole r l (HeaterCase h) = heater-whole j (r .next) l h
   of-whole r l (StepCase p) = step-whole j (r .next) l (stepOf p (r .volumes) (r .settings))
@@ -100,7 +100,7 @@ pub reading-whole : (s : List ℕ) → AreBytes s → (w : List ℕ) (j : Job) �
 reading-whole s bytes w j window ready = window-reads s bytes (j .before) w window (j .at) ready (j .«has_tank») (j .design .heaters) (not (eqb (j .steps) 0))
 
 -- the law
-pub record-window : (s : List ℕ) → AreBytes s → (w : List ℕ) (j : Job) → Window s (j .before) w → j .at ≤ length w → Ready s w j → outcome s (inWhole j) ≡ outcomeInWhole (outcome w j)
-unfolding outcome
+pub record-window : (s : List ℕ) → AreBytes s → (w : List ℕ) (j : Job) → Window s (j .before) w → j .at ≤ length w → Ready s w j → recordRun s (inWhole j) ≡ runInWhole (recordRun w j)
+unfolding recordRun
 record-window s bytes w j window placed ready =
     rw (reading-whole s bytes w j window ready) (of-whole s w j placed (window .inside) ready (readingOf w j) (reading-moves s w j placed (window .inside) ready) (readingOf w j .content))

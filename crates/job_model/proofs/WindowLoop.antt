@@ -8,13 +8,13 @@ use borrow.Author.Tests.{not-true}
 use lib.ListN.{length, length-append}
 use Rattle.numeric.specs.Holds.{both}
 use Rattle.job_lines.specs.Lengths.{maxText}
-use Rattle.job_run.specs.declared.Job.{Job}
-use Rattle.job_run.specs.Job.{Outcome, followed}
-use Rattle.job_run.specs.Windows.{runReady, Stops}
-use Rattle.job_run.proofs.Moves.{Moves}
-use Rattle.job_run.proofs.Ends.{Within, recordsLeft, record-within, record-before, record-less}
+use Rattle.job_model.specs.declared.Job.{Job}
+use Rattle.job_model.specs.Job.{RecordRun, followed}
+use Rattle.job_model.specs.Windows.{runReady, Stops}
+use Rattle.job_model.proofs.Moves.{Moves}
+use Rattle.job_model.proofs.Ends.{Within, recordsLeft, record-within, record-before, record-less}
 
-module _ (f : Job → Outcome) (ready : ℕ → Bool) where
+module _ (f : Job → RecordRun) (ready : ℕ → Bool) where
   abbrev pub goesOn : Job → Bool
   goesOn j = not (j .ended) && ready (j .at)
 
@@ -65,7 +65,7 @@ module _ (f : Job → Outcome) (ready : ℕ → Bool) where
     next = one-more (r .records) j₀ (ap goesOn (r .goes) ∙ on) ∙ ap (λ (i : Job). followed (runReady f ready (r .records) j₀) (f i)) (r .goes)
 
     longer : length (runReady f ready (suc (r .records)) j₀ .text) ≡ taken + length (f j .text)
-    longer = ap (λ (t : Outcome). length (t .text)) next ∙ length-append (runReady f ready (r .records) j₀ .text) (f j .text) ∙ ap (λ (n : ℕ). n + length (f j .text)) (r .counts)
+    longer = ap (λ (t : RecordRun). length (t .text)) next ∙ length-append (runReady f ready (r .records) j₀ .text) (f j .text) ∙ ap (λ (n : ℕ). n + length (f j .text)) (r .counts)
 
     -- the record's lines were taken to their end
     pub running-next : (more : ℕ) → more ≡ length (f j .text) → more ≤ maxText → Running size j₀ (f j .job) (taken + more)
@@ -74,7 +74,7 @@ module _ (f : Job → Outcome) (ready : ℕ → Bool) where
         let less = record-less f size moves j (r .within) not-ended in
         record {
           records = suc (r .records);
-          goes = ap (λ (t : Outcome). t .job) next;
+          goes = ap (λ (t : RecordRun). t .job) next;
           counts = rw e longer;
           within = record-within f size moves j (r .within);
           before = record-before f size moves j (r .within) ∙ r .before;

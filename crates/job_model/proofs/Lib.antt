@@ -1,4 +1,4 @@
--- The laws of `job_run`.
+-- The laws of `job_model`.
 pub mod Moves
 pub mod Ends
 pub mod Rest

@@ -3,10 +3,11 @@ use Prim.Native.Nat.{_-_, _≤_}
 use native.Mathlib.Omega.{arith}
 use mathlib.Core.Path.{_≡_, refl, sym, ap, _∙_}
 use lib.ListN.{length}
-use Rattle.job_windows.proofs.Moved.{moved, moved-length, moved-more}
+use Rattle.input_window.specs.Window.{moved}
+use Rattle.input_window.proofs.Moved.{moved-length, moved-more}
 use borrow.Author.Needs.{needs}
-use Rattle.job_windows.proofs.window.move_down.Statement.{statement}
-use Rattle.job_windows.proofs.window.move_down.Tie as tie
+use Rattle.input_window.proofs.window.move_down.Statement.{statement}
+use Rattle.input_window.proofs.window.move_down.Tie as tie
 
 abbrev Inv-loop : tie.InvT-loop
 Inv-loop buf₀ from end i₀ buf i = (i ≤ end - from) × (buf ≡ moved from buf₀ i)

@@ -1,7 +1,7 @@
 -- `window::goes_on` meets its contract: by its three tests.
 use borrow.Author.Needs.{needs}
-use Rattle.job_windows.proofs.window.goes_on.Statement.{statement}
-use Rattle.job_windows.proofs.window.goes_on.Tie as tie
+use Rattle.input_window.proofs.window.goes_on.Statement.{statement}
+use Rattle.input_window.proofs.window.goes_on.Tie as tie
 
 returns : tie.Need-returns
 returns c = search needs

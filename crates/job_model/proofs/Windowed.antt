@@ -10,27 +10,27 @@ use lib.Dec.{leb}
 use lib.ListN.{length}
 use Rattle.job_records.specs.Windows.{Window, AreBytes, maxRecord, isReady}
 use Rattle.numeric.specs.Holds.{both}
-use Rattle.job_run.specs.declared.Job.{Job}
-use Rattle.job_run.specs.Job.{Outcome, offsetOf, followed, outcome, runAll, jobText}
-use Rattle.job_run.specs.Windows.{inWhole, outcomeInWhole, movedUp, runReady, windowRecords, windowRun, Windowed, begun, another}
-use Rattle.job_run.proofs.Moves.{Moves, record-moves}
-use Rattle.job_run.proofs.Ends.{Within, recordsLeft, record-within, record-before, record-less}
-use Rattle.job_run.proofs.Rest.{restOf, rest-start, rest-next, rest-ended}
-use Rattle.job_run.proofs.RecordWindow.{Ready, record-window}
+use Rattle.job_model.specs.declared.Job.{Job}
+use Rattle.job_model.specs.Job.{RecordRun, offsetOf, followed, recordRun, runAll, jobText}
+use Rattle.job_model.specs.Windows.{inWhole, runInWhole, movedUp, runReady, windowRecords, windowRun, Windowed, begun, another}
+use Rattle.job_model.proofs.Moves.{Moves, record-moves}
+use Rattle.job_model.proofs.Ends.{Within, recordsLeft, record-within, record-before, record-less}
+use Rattle.job_model.proofs.Rest.{restOf, rest-start, rest-next, rest-ended}
+use Rattle.job_model.proofs.RecordWindow.{Ready, record-window}
 
 -- what records do: they move on as a job's do, and do in a window what they do in the whole input
-pub record Windows (f : List ℕ → Job → Outcome) (s : List ℕ) : Type 0 where
+pub record Windows (f : List ℕ → Job → RecordRun) (s : List ℕ) : Type 0 where
   pub moves : (bytes : List ℕ) (j : Job) → Moves j (length bytes) (f bytes j)
-  pub whole : (w : List ℕ) (j : Job) → Window s (j .before) w → j .at ≤ length w → Ready s w j → f s (inWhole j) ≡ outcomeInWhole (f w j)
+  pub whole : (w : List ℕ) (j : Job) → Window s (j .before) w → j .at ≤ length w → Ready s w j → f s (inWhole j) ≡ runInWhole (f w j)
 
-module _ (f : List ℕ → Job → Outcome) (s : List ℕ) (law : Windows f s) where
+module _ (f : List ℕ → Job → RecordRun) (s : List ℕ) (law : Windows f s) where
   -- what is left of the whole input, seen from a job in a window
-  abbrev left : Job → Outcome
+  abbrev left : Job → RecordRun
   left j = restOf (f s) (length s) (inWhole j)
 
   -- one window, k bytes on in the input
   module _ (k : ℕ) (w : List ℕ) (last : Bool) (window : Window s k w) (honest : last ≡ true → k + length w ≡ length s) where
-    abbrev run : ℕ → Job → Outcome
+    abbrev run : ℕ → Job → RecordRun
     run n j = runReady (f w) (isReady w last) n j
 
     ready : (j : Job) → j .before ≡ k → isReady w last (j .at) ≡ true → Ready s w j
@@ -55,7 +55,7 @@ module _ (f : List ℕ → Job → Outcome) (s : List ℕ) (law : Windows f s) w
         one ∙ rw (law .whole w j (rw e window) (x .placed) (ready j e (p .1)))
 
     -- where the run of a window stands, and what was left before it
-    pub record Run (j : Job) (r : Outcome) : Type 0 where
+    pub record Run (j : Job) (r : RecordRun) : Type 0 where
       pub leaves : left j ≡ followed r (left (r .job))
       pub within : Within (length w) (r .job)
       pub before : r .job .before ≡ k
@@ -63,7 +63,7 @@ module _ (f : List ℕ → Job → Outcome) (s : List ℕ) (law : Windows f s) w
     stays : (j : Job) → j .before ≡ k → Within (length w) j → Run j (record { job = j; text = [] })
     stays j e x = record { leaves = refl; within = x; before = e }
 
-    goes : (j : Job) → j .before ≡ k → Within (length w) j → (not (j .ended) && isReady w last (j .at)) ≡ true → (r : Outcome) → Run (f w j .job) r → Run j (followed (f w j) r)
+    goes : (j : Job) → j .before ≡ k → Within (length w) j → (not (j .ended) && isReady w last (j .at)) ≡ true → (r : RecordRun) → Run (f w j .job) r → Run j (followed (f w j) r)
     goes j e x t r rest = record {
       leaves = record-left j e x t ∙ rw (rest .leaves, append-assoc (f w j .text) (r .text) (left (r .job) .text));
       within = rest .within;
@@ -114,7 +114,7 @@ module _ (f : List ℕ → Job → Outcome) (s : List ℕ) (law : Windows f s) w
   windowed-whole j text d e =
       let i = told j text d in
       let none = rest-ended (f s) (length s) (inWhole j) e in
-      sym (append-nil text) ∙ rw none at (ap (λ (t : Outcome). t .text) (i .whole))
+      sym (append-nil text) ∙ rw none at (ap (λ (t : RecordRun). t .text) (i .whole))
 
   -- the last window ends the job: all that is left can be read in it
   last-ends : (w : List ℕ) (n : ℕ) (j : Job) → Within (length w) j → (b : Bool) → j .ended ≡ b → recordsLeft (length w) b (j .at) ≤ n → runReady (f w) (isReady w true) n j .job .ended ≡ true
@@ -141,13 +141,13 @@ module _ (f : List ℕ → Job → Outcome) (s : List ℕ) (law : Windows f s) w
 
 -- ---- the theorem, for what a job prints
 
-pub record-windows : (s : List ℕ) → AreBytes s → Windows outcome s
+pub record-windows : (s : List ℕ) → AreBytes s → Windows recordRun s
 record-windows s bytes = record { moves = λ b j. record-moves j b; whole = record-window s bytes }
 
 -- a job that is told window by window to its end prints what the whole job prints
-pub job-windowed : (s : List ℕ) → AreBytes s → (j : Job) (text : List ℕ) → Windowed outcome s j text → j .ended ≡ true → text ≡ jobText s
-job-windowed s bytes = windowed-whole outcome s (record-windows s bytes)
+pub job-windowed : (s : List ℕ) → AreBytes s → (j : Job) (text : List ℕ) → Windowed recordRun s j text → j .ended ≡ true → text ≡ jobText s
+job-windowed s bytes = windowed-whole recordRun s (record-windows s bytes)
 
 -- and the last window takes it to its end
-pub job-last-ends : (s : List ℕ) → AreBytes s → (j : Job) (text : List ℕ) → Windowed outcome s j text → (w : List ℕ) → windowRun outcome w true j .job .ended ≡ true
-job-last-ends s bytes = last-window-ends outcome s (record-windows s bytes)
+pub job-last-ends : (s : List ℕ) → AreBytes s → (j : Job) (text : List ℕ) → Windowed recordRun s j text → (w : List ℕ) → windowRun recordRun w true j .job .ended ≡ true
+job-last-ends s bytes = last-window-ends recordRun s (record-windows s bytes)

@@ -6,28 +6,28 @@ use mathlib.Core.List.{[], _++_, append-assoc, append-nil}
 use mathlib.Core.Path.{_≡_, refl, sym, ap, _∙_}
 use lib.ListN.{length, length-append}
 use borrow.Author.Tests.{ltb-true, ltb-false}
-use Rattle.job_run.specs.declared.Job.{Job}
-use Rattle.job_run.specs.declared.Ran.{Ran}
-use Rattle.job_run.specs.Job.{Outcome, startJob, followed, runFrom, runAll}
-use Rattle.job_run.specs.Handed.{Sends, firstRecords, Cut, Handed, Begins}
-use Rattle.job_run.proofs.Moves.{Moves}
-use Rattle.job_run.proofs.Ends.{run-ends}
-use Rattle.job_run.proofs.Rest.{Printing, printing-start, printing-next, printing-end}
+use Rattle.job_model.specs.declared.Job.{Job}
+use Rattle.job_model.specs.declared.Ran.{Ran}
+use Rattle.job_model.specs.Job.{RecordRun, startJob, followed, runFrom, runAll}
+use Rattle.job_model.specs.Handed.{Sends, firstRecords, Cut, Handed, Begins}
+use Rattle.job_model.proofs.Moves.{Moves}
+use Rattle.job_model.proofs.Ends.{run-ends}
+use Rattle.job_model.proofs.Rest.{Printing, printing-start, printing-next, printing-end}
 
 -- the job after its first records, and the length of what they print
-pub record Reached (f : Job → Outcome) (j : Job) (taken : ℕ) : Type 0 where
+pub record Reached (f : Job → RecordRun) (j : Job) (taken : ℕ) : Type 0 where
   pub records : ℕ
   pub goes : firstRecords f records .job ≡ j
   pub counts : length (firstRecords f records .text) ≡ taken
 
-module _ (f : Job → Outcome) where
+module _ (f : Job → RecordRun) where
   -- a record more is the next record of the job that the first have left, unless that has ended
   one-more : (k : ℕ) (ended : Bool) (j : Job) → j .ended ≡ ended → runFrom f k ended j .job .ended ≡ false → runFrom f (suc k) ended j ≡ followed (runFrom f k ended j) (f (runFrom f k ended j .job))
   unfolding runFrom
   one-more zero true j e g = absurd (true≢false (sym e ∙ g))
   one-more zero false j e g = rw append-nil
   one-more (suc k) true j e g = absurd (true≢false (sym e ∙ g))
-  one-more (suc k) false j e g = let t = f j in rw (one-more k (t .job .ended) (t .job) refl g, append-assoc)
+  one-more (suc k) false j e g = let t = f j in ap (followed t) (one-more k (t .job .ended) (t .job) refl g) ∙ rw append-assoc
 
   reached-start : Reached f startJob 0
   unfolding runFrom
@@ -38,11 +38,11 @@ module _ (f : Job → Outcome) where
     next = one-more (r .records) false startJob refl (ap (λ (i : Job). i .ended) (r .goes) ∙ e) ∙ ap (λ (i : Job). followed (firstRecords f (r .records)) (f i)) (r .goes)
 
     longer : length (firstRecords f (suc (r .records)) .text) ≡ taken + length (f j .text)
-    longer = ap (λ (t : Outcome). length (t .text)) next ∙ length-append (firstRecords f (r .records) .text) (f j .text) ∙ ap (λ (n : ℕ). n + length (f j .text)) (r .counts)
+    longer = ap (λ (t : RecordRun). length (t .text)) next ∙ length-append (firstRecords f (r .records) .text) (f j .text) ∙ ap (λ (n : ℕ). n + length (f j .text)) (r .counts)
 
     -- the next record's lines were taken to their end
     reached-next : (more : ℕ) → more ≡ length (f j .text) → Reached f (f j .job) (taken + more)
-    reached-next more m = let n = longer in record { records = suc (r .records); goes = ap (λ (t : Outcome). t .job) next; counts = omega arith }
+    reached-next more m = let n = longer in record { records = suc (r .records); goes = ap (λ (t : RecordRun). t .job) next; counts = omega arith }
 
     -- they were not
     reached-cut : (more : ℕ) → more < length (f j .text) → Cut f j (taken + more)
@@ -61,18 +61,18 @@ module _ (f : Job → Outcome) where
       (b .0, append-assoc (t .text) _ (b .0) ∙ ap (λ r. t .text ++ r) (b .1))
 
 -- where a loop stands that prints a job, and no write has failed
-pub record Handing (f : Job → Outcome) (size : ℕ) (j : Job) (taken : ℕ) : Type 0 where
+pub record Handing (f : Job → RecordRun) (size : ℕ) (j : Job) (taken : ℕ) : Type 0 where
   pub printing : Printing f size j taken
   pub reached : Reached f j taken
 
-pub handing-start : (f : Job → Outcome) (size : ℕ) → Handing f size startJob 0
+pub handing-start : (f : Job → RecordRun) (size : ℕ) → Handing f size startJob 0
 handing-start f size = record { printing = printing-start f size; reached = reached-start f }
 
-pub handing-end : (f : Job → Outcome) (size : ℕ) (j : Job) (taken : ℕ) → Handing f size j taken → j .ended ≡ true → Handed f size (record { job = j; taken = taken; failed = false })
+pub handing-end : (f : Job → RecordRun) (size : ℕ) (j : Job) (taken : ℕ) → Handing f size j taken → j .ended ≡ true → Handed f size (record { job = j; taken = taken; failed = false })
 handing-end f size j taken h e = record { whole = λ _. printing-end f size j taken (h .printing) e; cut = λ g. absurd (true≢false (sym g)) }
 
 -- the laws, of an f of any kind that moves as a record does
-module _ (f : Job → Outcome) (size : ℕ) (moves : (j : Job) → Moves j size (f j)) where
+module _ (f : Job → RecordRun) (size : ℕ) (moves : (j : Job) → Moves j size (f j)) where
   pub firsts-begin : (k : ℕ) → Begins (firstRecords f k .text) (runAll f size .text)
   unfolding runAll
   firsts-begin k = begins f k (size + 1) false startJob refl (run-ends f size moves)
