@@ -19,6 +19,11 @@ fn four_steps(m: TankDesign, a: Step) {
     answers::step(third.tank, third.report, a);
 }
 
+// One step from 40, with one heater's set points.
+fn one_step(points: SetPoints) {
+    answers::first_step(from_40(), tanks::heats(1, points));
+}
+
 // Two layers at 36 that lose heat, and two heaters.
 fn losing(first: Heater, second: Heater) -> TankDesign {
     let mut m = tanks::with_heaters(2, 32.0, 36.0, 2, first);
@@ -28,36 +33,39 @@ fn losing(first: Heater, second: Heater) -> TankDesign {
     m
 }
 
+// Two heaters unset on a tank that loses heat.
+fn unset(first: Heater, second: Heater) {
+    answers::first_step(losing(first, second), tanks::heats(2, SetPoints::Neither));
+}
+
+// Layers at 40 and n heaters alike, with set points 50 and 60.
+fn alike(layers: usize, volume: f64, n: usize, h: Heater) {
+    answers::first_step(
+        tanks::with_heaters(layers, volume, 40.0, n, h),
+        tanks::heats(n, SetPoints::Both(50.0, 60.0)),
+    );
+}
+
 pub fn figures() {
     print::word(b"# Two layers at 40, 160 kW at position 0, set points 50 and 60, four steps\n");
     four_steps(from_40(), tanks::heats(1, SetPoints::Both(50.0, 60.0)));
     print::word(b"# Set points 41 and 42\n");
-    answers::first_step(from_40(), tanks::heats(1, SetPoints::Both(41.0, 42.0)));
+    one_step(SetPoints::Both(41.0, 42.0));
     print::word(b"# Two layers at 36, standby 27, step 0.125, two heaters unset\n");
-    let low = tanks::heater(3.0, 0.0);
-    answers::first_step(losing(low, low), tanks::heats(2, SetPoints::Neither));
+    unset(tanks::heater(3.0, 0.0), tanks::heater(3.0, 0.0));
     print::word(b"# Position 0.5 of 4: layer 2 is heated\n");
-    answers::first_step(
-        tanks::with_heaters(4, 64.0, 40.0, 1, tanks::heater(160.0, 0.5)),
-        tanks::heats(1, SetPoints::Both(50.0, 60.0)),
-    );
+    alike(4, 64.0, 1, tanks::heater(160.0, 0.5));
     print::word(b"# Position 1\n");
     answers::make(tanks::with_heaters(4, 64.0, 40.0, 1, tanks::heater(160.0, 1.0)));
     print::word(b"# Lower equal to upper\n");
-    answers::first_step(from_40(), tanks::heats(1, SetPoints::Both(50.0, 50.0)));
+    one_step(SetPoints::Both(50.0, 50.0));
 }
 
 pub fn edges() {
     print::word(b"# Two heaters unset, the upper one given first: the lower one is worked first\n");
-    answers::first_step(
-        losing(tanks::heater(3.0, 0.5), tanks::heater(3.0, 0.0)),
-        tanks::heats(2, SetPoints::Neither),
-    );
+    unset(tanks::heater(3.0, 0.5), tanks::heater(3.0, 0.0));
     print::word(b"# Eight heaters of 10 kW\n");
-    answers::first_step(
-        tanks::with_heaters(2, 32.0, 40.0, 8, tanks::heater(10.0, 0.0)),
-        tanks::heats(8, SetPoints::Both(50.0, 60.0)),
-    );
+    alike(2, 32.0, 8, tanks::heater(10.0, 0.0));
     print::word(b"# The upper set point alone: a flag that is off stays off\n");
-    answers::first_step(from_40(), tanks::heats(1, SetPoints::Upper(60.0)));
+    one_step(SetPoints::Upper(60.0));
 }
