@@ -27,9 +27,10 @@ use Rattle.job_records.specs.Records.{readRecord}
 use Rattle.job_records.specs.Values.{zeroTankRecord, numberIn}
 use Rattle.job_lines.specs.Put.{written}
 use Rattle.job_lines.specs.Lengths.{maxText}
-use Rattle.job_lines.specs.Lines.{refusalLine, stepLines}
+use Rattle.job_lines.specs.Lines.{refusalLine}
 use Rattle.job_model.specs.declared.Job.{Job}
 use Rattle.job_model.specs.declared.Printed.{Printed}
+use Rattle.job_model.specs.StepLines.{stepLines}
 
 -- ---- what records hold
 

@@ -68,7 +68,7 @@ fn run_step(buf: &mut [u8], j: Job, next: usize, a: Step) -> Printed
     let before = j.tank;
     let last = j.report;
     let s = before.demand_hot_water(last, a);
-    let length = job_lines::lines::step_lines(buf, j.steps, s);
+    let length = crate::lines::step_lines(buf, j.steps, s);
     let tank = s.tank;
     let report = s.report;
     let mut job = j;

@@ -8,11 +8,11 @@ use Rattle.tank_model.specs.Fixed.{placedHeaters, fixedBy}
 use Rattle.tank_model.specs.Order.{workingOrder}
 use Rattle.tank_arrays.proofs.WorkingOrder.{order-of}
 use Rattle.storage_tank.specs.Tank.{fixedIn}
-use Rattle.job_lines.specs.Lines.{stepLines}
 use Rattle.job_lines.proofs.Ordered.{accepted-order}
+use Rattle.job_model.specs.StepLines.{totalsOf, stepLines}
 use borrow.Author.Needs.{needs}
-use Rattle.job_lines.proofs.lines.step_lines.Statement.{statement}
-use Rattle.job_lines.proofs.lines.step_lines.Tie as tie
+use Rattle.job_run.proofs.lines.step_lines.Statement.{statement}
+use Rattle.job_run.proofs.lines.step_lines.Tie as tie
 
 refused-lines-requires : tie.Need-refused-lines-requires
 refused-lines-requires c κs = search needs
@@ -42,12 +42,12 @@ same-length-2 c = search needs
 returns-2 : tie.Need-returns-2
 unfolding stepLines
 returns-2 c =
-    let args = c .before .before .before .before .before .before .before .before .before .before .before .before .before .before .before .before .args in
+    let args = c .before .before .before .before .before .before .before .before .before .before .before .before .before .before .before .before .before .args in
     let t = args .s .tank in
     let n = c .before .before .before .before .before .before .before .before .at-most .result in
     let laid = c .before .before .before .before .before .before .before .heaters-of .ensures in
     let order : take n (c .before .before .before .before .before .working-order .result) ≡ workingOrder (fixedBy (fixedIn t .cylinder) (placedHeaters n (t .fitted))) = first-entries _ _ _ (c .before .before .before .before .before .working-order .ensures) ∙ sym (order-of (fixedIn t .cylinder) n (omega arith) (t .fitted) _ (laid .0) (laid .1)) in
-    rw (eq-eqb _ _ (c .before .before .before .before .before .before .before .before .before .before .before .if1 .left), ← c .before .before .before .before .before .before .before .before .at-most .ensures .0, ← accepted-order (args .index) (args .s .report) (t .layers) (t .temps) n _ _ order) (c .before .before .accepted-lines .ensures)
+    rw (eq-eqb _ _ (c .before .before .before .before .before .before .before .before .before .before .before .before .if1 .left), ← c .before .before .before .before .before .before .before .before .at-most .ensures .0, ← accepted-order (args .index) (totalsOf (args .s .report)) (t .layers) (t .temps) n _ _ (args .s .report .lines) order) (c .before .before .accepted-lines .ensures)
 
 pub step-lines-spec : {M : Type 1} → statement M
 step-lines-spec =
