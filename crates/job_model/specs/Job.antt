@@ -120,7 +120,8 @@ abbrev pub unlessRefused : Job → ℕ → RecordRun → RecordRun
 unlessRefused j number t = cond (eqb number 0) t (refusedRun j number)
 
 abbrev pub withTank : Job → ℕ → TankDesign → StorageTank → Job
-withTank j next d t = record { before = j .before; at = next; ended = j .ended; «has_tank» = true; steps = j .steps; design = d; tank = t; report = j .report }
+withTank j next d t =
+    record { before = j .before; at = next; ended = j .ended; «has_tank» = true; steps = j .steps; design = d; tank = t; report = j .report }
 
 -- the tank made, or the number of make's refusal
 unfoldable pub madeRun : Job → ℕ → TankDesign → RecordRun

@@ -39,6 +39,7 @@ unfolding atMost
 shown-order t h = rw (le-leb (t .heaters) maxHeaters h)
 
 -- a refused step prints no heater's line
-pub refused-lines : (index : ℕ) (s : Stepped) → eqb (s .number) 0 ≡ false → stepLines index s ≡ refusedLines index (s .number) (s .tank .layers) (s .tank .temps)
+pub refused-lines : (index : ℕ) (s : Stepped) → eqb (s .number) 0 ≡ false
+    → stepLines index s ≡ refusedLines index (s .number) (s .tank .layers) (s .tank .temps)
 unfolding stepLines
 refused-lines index s e = rw e

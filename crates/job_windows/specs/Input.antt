@@ -15,7 +15,8 @@ use Rattle.input_window.specs.Window.{maxWindow}
 
 -- a window is begun: so many bytes are held of it, and the job stands at its beginning
 abbrev pub Open : List ℕ → ℕ → Job → Type 0
-Open buf held j = (length buf ≡ maxWindow) × (held ≤ maxWindow) × (j .at ≡ 0) × (16 * j .steps ≤ j .before) × (j .before + maxWindow ≤ 4611686018427387904)
+Open buf held j =
+    (length buf ≡ maxWindow) × (held ≤ maxWindow) × (j .at ≡ 0) × (16 * j .steps ≤ j .before) × (j .before + maxWindow ≤ 4611686018427387904)
 
 -- how the window w was taken, called the last where it is not full: after n records, where the job ends or the next cannot be read in w, the job stands at the
 -- beginning of the next window, which is what is left of w
