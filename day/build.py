@@ -24,7 +24,7 @@ SAID = re.compile(r"rt: (\w+) proved \((?:([0-9]+) s|unchanged.*)\)")
 COSTS = {"numeric": 9, "shorter_sums": 4, "streams": 12, "mixing": 2, "running_group": 17, "rearrange": 15, "cylinder": 4}
 COSTS.update({"draw_off": 10, "refill": 15, "draw_events": 12, "heating": 19, "immersion_heater": 11, "working_order": 4})
 COSTS.update({"tank_model": 6, "tank_arrays": 28, "step_work": 21, "storage_tank": 15, "job_records": 6, "record_bodies": 14, "job_reader": 7})
-COSTS.update({"job_lines": 20, "job_model": 3, "input_window": 5, "job_run": 19, "job_history": 36, "job_windows": 18, "job": 16})
+COSTS.update({"job_lines": 17, "job_model": 3, "input_window": 5, "job_run": 20, "job_history": 36, "job_windows": 18, "job": 16})
 COSTS.update({"history": 13, "long_job": 13})
 UNKNOWN = 20  # for a crate that is not among them
 
