@@ -134,35 +134,42 @@ fn next(before: Stepped, points: SetPoints) -> Stepped {
     after(before, for_one(points))
 }
 
-fn set_points() {
-    print::word(b"# Set points that come and go\n");
+// A heater that came on, and is kept on by an upper set point alone.
+fn kept_on() -> Stepped {
     let on = answers::first_step(
         with_one(dense(2, 32.0, 40.0, 0.5), heater_with(128.0, 0.0, 0.5)),
         for_one(SetPoints::Both(40.0, 60.0)),
     );
-    let kept = next(on, SetPoints::Upper(60.0));
-    let off = next(kept, SetPoints::Neither);
+    next(on, SetPoints::Upper(60.0))
+}
+
+fn set_points() {
+    print::word(b"# Set points that come and go\n");
+    let off = next(kept_on(), SetPoints::Neither);
     let still = next(off, SetPoints::Upper(60.0));
     let above = next(still, SetPoints::Both(41.0, 60.0));
     next(above, SetPoints::Both(42.0, 43.0));
 }
 
-fn one_step() {
+// One step of a tank with one heater.
+fn one_step(m: TankDesign, rated: f64, points: SetPoints) {
+    answers::first_step(with_one(m, tanks::heater(rated, 0.0)), for_one(points));
+}
+
+fn adjusted_alone() {
     print::word(b"# An adjusted input wide-close to 0 is reported, and nothing is supplied\n");
-    answers::first_step(
-        with_one(
-            dense(1, 16.0, 40.0, 0.5),
-            tanks::heater(2.9103830456733704e-11, 0.0),
-        ),
-        for_one(SetPoints::Both(50.0, 60.0)),
+    one_step(
+        dense(1, 16.0, 40.0, 0.5),
+        2.9103830456733704e-11,
+        SetPoints::Both(50.0, 60.0),
     );
+}
+
+fn colder_than_the_room() {
     print::word(b"# A tank colder than the room loses nothing\n");
     let mut m = dense(2, 32.0, 10.0, 0.5);
     m.standby = 27.0;
-    answers::first_step(
-        with_one(m, tanks::heater(64.0, 0.0)),
-        for_one(SetPoints::Neither),
-    );
+    one_step(m, 64.0, SetPoints::Neither);
 }
 
 // A step with one heater's set points, and so many draws of one volume.
@@ -208,6 +215,7 @@ pub fn figures() {
     three_heaters();
     thermostats();
     set_points();
-    one_step();
+    adjusted_alone();
+    colder_than_the_room();
     refused();
 }

@@ -2,15 +2,15 @@
 // standard error says why: then standard output has a beginning of the lines, and nothing where it was a read.
 ghost use Prim.Native.Nat.{_≤_};
 ghost use lib.ListN.{length};
-ghost use Rattle.job_run.specs.Job.{Countable, outcome};
-ghost use Rattle.job_run.specs.Handed.{Sends, Handed};
-use job_run::Job;
-use job_run::Ran;
+ghost use Rattle.job_model.specs.Job.{Countable, recordRun};
+ghost use Rattle.job_model.specs.Handed.{Sends, Handed};
+use job_model::Job;
+use job_model::Ran;
 
 // The next record: its lines handed on, and the job after it.
 fn print_record(bytes: &[u8], job: Job) -> Ran
     requires { ⌜ Countable job ⌝ }
-    ensures { λ r. ⌜ Sends (outcome (now (bytes .entry)) job) r ⌝ }
+    ensures { λ r. ⌜ Sends (recordRun (now (bytes .entry)) job) r ⌝ }
 {
     let mut lines = io::buffer();
     let p = job_run::record::next_record(&mut lines, bytes, job);
@@ -27,7 +27,7 @@ fn print_record(bytes: &[u8], job: Job) -> Ran
 // All records, until the job has ended or a write fails. What a write does cannot be spoken of: the answer says where the job stands and what was taken.
 fn run(bytes: &[u8]) -> Ran
     requires { ⌜ length (now bytes) ≤ 65536 ⌝ }
-    ensures { λ r. ⌜ Handed (outcome (now (bytes .entry))) (length (now (bytes .entry))) r ⌝ }
+    ensures { λ r. ⌜ Handed (recordRun (now (bytes .entry))) (length (now (bytes .entry))) r ⌝ }
 {
     let mut job = job_run::start::start();
     let mut taken = 0;

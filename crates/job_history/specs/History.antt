@@ -9,8 +9,8 @@ use Rattle.storage_tank.specs.Calls.{stepped}
 use Rattle.job_records.specs.declared.Record.{Record}
 use Rattle.job_records.specs.declared.Record.the-variants.{Tank, Heater as HeaterCase, Step as StepCase, Refused}
 use Rattle.job_records.specs.declared.Reading.{Reading}
-use Rattle.job_run.specs.declared.Job.{Job}
-use Rattle.job_run.specs.Job.{Outcome, stepOf, afterStep, outcomeOf, readingOf, runAll}
+use Rattle.job_model.specs.declared.Job.{Job}
+use Rattle.job_model.specs.Job.{RecordRun, stepOf, afterStep, runOf, readingOf, runAll}
 use Rattle.job_history.specs.Facts.{stepTurns, turnsOf}
 use Rattle.job_history.specs.Lines.{historyLines}
 
@@ -19,22 +19,22 @@ unfoldable pub stepHistory : ℕ → StorageTank → Report → Step → List �
 stepHistory index t r a = historyLines index (stepped t r a .number) (turnsOf (stepTurns t a))
 
 -- the job goes on as it does when it prints its figures
-unfoldable pub historyStep : Job → ℕ → Step → Outcome
+unfoldable pub historyStep : Job → ℕ → Step → RecordRun
 historyStep j next a =
     let s = stepped (j .tank) (j .report) a in
     record { job = afterStep j next (s .tank) (s .report); text = stepHistory (j .steps) (j .tank) (j .report) a }
 
-unfoldable pub historyOf : List ℕ → Job → Reading → Record → Outcome
-historyOf bytes j r (Tank t) = outcomeOf bytes j r (Tank t)
-historyOf bytes j r (HeaterCase h) = outcomeOf bytes j r (HeaterCase h)
+unfoldable pub historyOf : List ℕ → Job → Reading → Record → RecordRun
+historyOf bytes j r (Tank t) = runOf bytes j r (Tank t)
+historyOf bytes j r (HeaterCase h) = runOf bytes j r (HeaterCase h)
 historyOf bytes j r (StepCase p) = historyStep j (r .next) (stepOf p (r .volumes) (r .settings))
-historyOf bytes j r Refused = outcomeOf bytes j r Refused
+historyOf bytes j r Refused = runOf bytes j r Refused
 
-unfoldable pub historyOutcome : List ℕ → Job → Outcome
-historyOutcome bytes j = historyOf bytes j (readingOf bytes j) (readingOf bytes j .content)
+unfoldable pub historyRecord : List ℕ → Job → RecordRun
+historyRecord bytes j = historyOf bytes j (readingOf bytes j) (readingOf bytes j .content)
 
-abbrev pub historyRun : List ℕ → Outcome
-historyRun bytes = runAll (historyOutcome bytes) (length bytes)
+abbrev pub historyRun : List ℕ → RecordRun
+historyRun bytes = runAll (historyRecord bytes) (length bytes)
 
 -- all that the history of a job prints
 abbrev pub historyText : List ℕ → List ℕ

@@ -1,9 +1,9 @@
 // One record of a job's history: the tank made, a heater added, a step's turns, or the end.
-ghost use Rattle.job_run.specs.Job.{Countable, Gives};
-ghost use Rattle.job_history.specs.History.{historyStep, historyOutcome};
+ghost use Rattle.job_model.specs.Job.{Countable, Gives};
+ghost use Rattle.job_history.specs.History.{historyStep, historyRecord};
+use job_model::Job;
+use job_model::Printed;
 use job_records::Record;
-use job_run::Job;
-use job_run::Printed;
 use tank_model::Step;
 
 // A step's turns; the job goes on as it does when it prints its figures.
@@ -30,7 +30,7 @@ fn tell_step(buf: &mut [u8], j: Job, next: usize, a: Step) -> Printed
 // The next record of a job: the lines of its history into the lent buffer, and the job after it.
 pub fn next_history(buf: &mut [u8], bytes: &[u8], j: Job) -> Printed
     requires { ⌜ Countable j ⌝ }
-    ensures { λ r. ⌜ Gives (historyOutcome (now (bytes .entry)) j) (now (buf .entry)) (now (buf .exit)) r ⌝ }
+    ensures { λ r. ⌜ Gives (historyRecord (now (bytes .entry)) j) (now (buf .entry)) (now (buf .exit)) r ⌝ }
 {
     let d = j.design;
     let r = job_reader::reader::read_at(bytes, j.at, j.has_tank, d.heaters, j.steps != 0);

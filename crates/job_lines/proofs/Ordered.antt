@@ -7,7 +7,7 @@ use lib.ListN.{getD, take}
 use lib.Seq.{getD-take}
 use lib.Ieee.{Float}
 use Rattle.tank_model.specs.declared.HeaterLine.{HeaterLine}
-use Rattle.storage_tank.specs.declared.Report.{Report}
+use Rattle.job_lines.specs.declared.Totals.{Totals}
 use Rattle.job_lines.specs.Lines.{joined, noLine, heaterLine, orderedLine, heaterLines, acceptedLines}
 
 joined-same : (f g : ℕ → List ℕ) (n : ℕ) → ((k : ℕ) → k < n → f k ≡ g k) → joined f n ≡ joined g n
@@ -21,6 +21,6 @@ first-of-order n order shown lines e =
     joined-same (orderedLine order lines) (orderedLine shown lines) n
     (λ k l. ap (λ (h : ℕ). heaterLine (getD lines h noLine)) (sym (getD-take n order k 0 l) ∙ ap (λ (xs : List ℕ). getD xs k 0) e))
 
-pub accepted-order : (index : ℕ) (report : Report) (layers : ℕ) (temps : List Float) (n : ℕ) (order shown : List ℕ) → take n order ≡ shown → acceptedLines index report layers temps n order ≡ acceptedLines index report layers temps n shown
+pub accepted-order : (index : ℕ) (totals : Totals) (layers : ℕ) (temps : List Float) (n : ℕ) (order shown : List ℕ) (lines : List HeaterLine) → take n order ≡ shown → acceptedLines index totals layers temps n order lines ≡ acceptedLines index totals layers temps n shown lines
 unfolding acceptedLines
-accepted-order index report layers temps n order shown e = rw (first-of-order n order shown (report .lines) e)
+accepted-order index totals layers temps n order shown lines e = rw (first-of-order n order shown lines e)

@@ -1,22 +1,15 @@
 -- States the lines that a job prints (01, Job): S, L and H of a step, and E of a refusal outside a step.
-use Prim.Native.Nat.{ℕ, zero, suc, _+_, _≤_}
-use borrow.Author.Tests.{le-leb}
+use Prim.Native.Nat.{ℕ, zero, suc, _+_}
 use native.Mathlib.Numerals.{add-one}
 use mathlib.Core.Path.{_≡_}
 use mathlib.Core.Bool.{false, cond}
 use mathlib.Core.List.{List, [], _∷_, _++_}
-use lib.Dec.{leb, eqb}
+use lib.Dec.{leb}
 use lib.ListN.{getD}
 use lib.Ieee.{Float, nan}
 use Rattle.mixing.specs.Limits.{maxLayers}
-use Rattle.working_order.specs.Order.{maxHeaters}
 use Rattle.tank_model.specs.declared.HeaterLine.{HeaterLine}
-use Rattle.tank_model.specs.Fixed.{placedHeaters, fixedBy}
-use Rattle.tank_model.specs.Order.{workingOrder}
-use Rattle.storage_tank.specs.declared.Report.{Report}
-use Rattle.storage_tank.specs.declared.StorageTank.{StorageTank}
-use Rattle.storage_tank.specs.declared.Stepped.{Stepped}
-use Rattle.storage_tank.specs.Tank.{fixedIn}
+use Rattle.job_lines.specs.declared.Totals.{Totals}
 use Rattle.job_lines.specs.Text.{newline, numberText, doubleText}
 
 -- a count of places, of which there are no more than `most`
@@ -37,7 +30,7 @@ unfoldable pub headText : ℕ → ℕ → List ℕ
 headText index number = 83 ∷ numberText index ++ numberText number
 
 -- the four totals, and the line's end
-unfoldable pub totalsText : Report → List ℕ
+unfoldable pub totalsText : Totals → List ℕ
 totalsText r = doubleText (r .energy) ++ doubleText (r .used) ++ doubleText (r .average) ++ doubleText (r .recoverable) ++ (newline ∷ [])
 
 abbrev pub layerText : List Float → ℕ → List ℕ
@@ -79,26 +72,7 @@ refusalLine number offset = 69 ∷ numberText number ++ numberText offset ++ (ne
 unfoldable pub refusedLines : ℕ → ℕ → ℕ → List Float → List ℕ
 refusedLines index number layers temps = headText index number ++ (newline ∷ []) ++ layersLine (atMost layers maxLayers) temps
 
-unfoldable pub acceptedLines : ℕ → Report → ℕ → List Float → ℕ → List ℕ → List ℕ
-acceptedLines index report layers temps heaters order =
-    headText index 0 ++ totalsText report ++ layersLine (atMost layers maxLayers) temps ++ heaterLines heaters order (report .lines)
-
--- the heaters in working order; a tank says of no more than it has places for
-abbrev pub shownHeaters : StorageTank → ℕ
-shownHeaters t = atMost (t .heaters) maxHeaters
-
-abbrev pub shownOrder : StorageTank → List ℕ
-shownOrder t = workingOrder (fixedBy (fixedIn t .cylinder) (placedHeaters (shownHeaters t) (t .fitted)))
-
--- a step's lines, by its number
-unfoldable pub stepLines : ℕ → Stepped → List ℕ
-stepLines index s =
-    let t = s .tank in
-    cond (eqb (s .number) 0)
-    (acceptedLines index (s .report) (t .layers) (t .temps) (shownHeaters t) (shownOrder t))
-    (refusedLines index (s .number) (t .layers) (t .temps))
-
--- the order is the step's own, for a tank whose heaters have places
-pub shown-order : (t : StorageTank) → t .heaters ≤ maxHeaters → shownOrder t ≡ workingOrder (fixedIn t)
-unfolding atMost
-shown-order t h = rw (le-leb (t .heaters) maxHeaters h)
+-- an accepted step prints its totals too, and the line of each heater, in an order
+unfoldable pub acceptedLines : ℕ → Totals → ℕ → List Float → ℕ → List ℕ → List HeaterLine → List ℕ
+acceptedLines index totals layers temps heaters order lines =
+    headText index 0 ++ totalsText totals ++ layersLine (atMost layers maxLayers) temps ++ heaterLines heaters order lines

@@ -6,20 +6,19 @@ ghost use lib.ListN.{getD};
 ghost use Rattle.mixing.specs.Limits.{maxLayers};
 ghost use Rattle.working_order.specs.Order.{maxHeaters};
 ghost use Rattle.job_lines.specs.Put.{Put, PutWhole};
-ghost use Rattle.job_lines.specs.Lengths.{headBytes, totalsBytes, layersBytes, heaterBytes, beforeHeaters, maxText};
+ghost use Rattle.job_lines.specs.Lengths.{doubleBytes, headBytes, totalsBytes, layersBytes, heaterBytes, beforeHeaters, maxText};
 ghost use Rattle.job_lines.specs.Lines.{atMost, headText, totalsText, layersText, layersLine, heaterLine, heaterLines};
-ghost use Rattle.job_lines.specs.Lines.{refusalLine, refusedLines, acceptedLines, stepLines};
+ghost use Rattle.job_lines.specs.Lines.{refusalLine, refusedLines, acceptedLines};
+use crate::Totals;
 use crate::text::put_byte;
 use crate::text::put_double;
 use crate::text::put_number;
 use mixing::limits::MAX_LAYERS;
-use storage_tank::Report;
-use storage_tank::Stepped;
 use tank_model::HeaterLine;
 use working_order::MAX_HEATERS;
 
 // There are no more places than `most`, whatever a count says.
-fn at_most(n: usize, most: usize) -> usize
+pub fn at_most(n: usize, most: usize) -> usize
     ensures { λ r. ⌜ (r ≡ atMost n most) × (r ≤ most) ⌝ }
 {
     if n <= most { n } else { most }
@@ -41,21 +40,21 @@ pub fn put_head(buf: &mut [u8], index: usize, number: u8) -> usize
 }
 
 // The four totals, and the line's end.
-fn put_totals(buf: &mut [u8], at: usize, report: Report) -> usize
+fn put_totals(buf: &mut [u8], at: usize, totals: Totals) -> usize
     requires { ⌜ at ≤ headBytes ⌝ }
-    ensures { λ r. ⌜ (Put (now (buf .entry)) at (totalsText report) (now (buf .exit)) r) × (r ≤ at + totalsBytes) ⌝ }
+    ensures { λ r. ⌜ (Put (now (buf .entry)) at (totalsText totals) (now (buf .exit)) r) × (r ≤ at + totalsBytes) ⌝ }
 {
-    let a = put_double(buf, at, report.energy);
-    let b = put_double(buf, a, report.used);
-    let c = put_double(buf, b, report.average);
-    let d = put_double(buf, c, report.recoverable);
+    let a = put_double(buf, at, totals.energy);
+    let b = put_double(buf, a, totals.used);
+    let c = put_double(buf, b, totals.average);
+    let d = put_double(buf, c, totals.recoverable);
     put_byte(buf, d, b'\n')
 }
 
 // The first n layers, each after a space.
 fn put_layers(buf: &mut [u8], at: usize, n: usize, temps: &[f64; MAX_LAYERS]) -> usize
     requires { ⌜ (n ≤ maxLayers) × (at ≤ headBytes + totalsBytes + 1) ⌝ }
-    ensures { λ r. ⌜ (Put (now (buf .entry)) at (layersText n (now (temps .entry))) (now (buf .exit)) r) × (r ≤ at + 17 * n) ⌝ }
+    ensures { λ r. ⌜ (Put (now (buf .entry)) at (layersText n (now (temps .entry))) (now (buf .exit)) r) × (r ≤ at + doubleBytes * n) ⌝ }
 {
     let mut a = at;
     let mut k = 0;
@@ -121,7 +120,7 @@ pub fn refusal_line(buf: &mut [u8], number: u8, offset: usize) -> usize
 }
 
 // A refused step's lines: its head, and the layers as they were.
-fn refused_lines(
+pub fn refused_lines(
     buf: &mut [u8],
     index: usize,
     number: u8,
@@ -137,39 +136,22 @@ fn refused_lines(
 }
 
 // An accepted step's lines: its head with the totals, the layers, and the heaters in an order.
-fn accepted_lines(
+pub fn accepted_lines(
     buf: &mut [u8],
     index: usize,
-    report: Report,
+    totals: Totals,
     layers: usize,
     temps: &[f64; MAX_LAYERS],
     heaters: usize,
     order: [usize; MAX_HEATERS],
+    lines: [HeaterLine; MAX_HEATERS],
 ) -> usize
     requires { ⌜ (heaters ≤ maxHeaters) × ((k : ℕ) → k < heaters → getD order k 0 < maxHeaters) ⌝ }
-    ensures { λ r. ⌜ PutWhole (acceptedLines index report layers (now (temps .entry)) heaters order) (now (buf .entry)) (now (buf .exit)) r ⌝ }
+    ensures { λ r. ⌜ PutWhole (acceptedLines index totals layers (now (temps .entry)) heaters order lines) (now (buf .entry)) (now (buf .exit)) r ⌝ }
 {
     let n = at_most(layers, MAX_LAYERS);
     let a = put_head(buf, index, 0);
-    let b = put_totals(buf, a, report);
+    let b = put_totals(buf, a, totals);
     let c = put_layers_line(buf, b, n, temps);
-    let lines = report.lines;
     put_heater_lines(buf, c, heaters, order, lines)
-}
-
-// A step's lines, by its number. Its heaters are printed in working order.
-pub fn step_lines(buf: &mut [u8], index: usize, s: Stepped) -> usize
-    ensures { λ r. ⌜ PutWhole (stepLines index s) (now (buf .entry)) (now (buf .exit)) r ⌝ }
-{
-    let t = s.tank;
-    let temps = t.temps;
-    if s.number != 0 {
-        return refused_lines(buf, index, s.number, t.layers, &temps);
-    }
-    let report = s.report;
-    let fitted = t.fitted;
-    let n = at_most(t.heaters, MAX_HEATERS);
-    let heaters = tank_arrays::arrays::heaters_of(fitted);
-    let order = working_order::working_order(n, &heaters);
-    accepted_lines(buf, index, report, t.layers, &temps, n, order)
 }

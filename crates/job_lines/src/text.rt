@@ -1,8 +1,9 @@
-// Bytes, digits and numbers, each put at a place of a lent buffer; what falls past its end is left out. The bounds on places keep their sums from wrapping.
+// Bytes, digits and numbers, each put at a place of a lent buffer; what falls past its end is left out. The bound on places keeps their sums from wrapping.
 ghost use mathlib.Core.Path.{_≡_};
 ghost use mathlib.Core.List.{[], _∷_};
 ghost use Prim.Native.Nat.{_+_, _≤_, _<_};
 ghost use lib.ListN.{set};
+ghost use Rattle.job_lines.specs.Lengths.{numberBytes, doubleBytes, maxPlace};
 ghost use Rattle.job_lines.specs.Put.{Put};
 ghost use Rattle.job_lines.specs.Text.{digitOf, digits, widthOf, numberText, doubleText};
 
@@ -18,7 +19,7 @@ fn store(buf: &mut [u8], at: usize, b: u8)
 }
 
 pub fn put_byte(buf: &mut [u8], at: usize, b: u8) -> usize
-    requires { ⌜ at ≤ 4096 ⌝ }
+    requires { ⌜ at ≤ maxPlace ⌝ }
     ensures { λ r. ⌜ (Put (now (buf .entry)) at (b ∷ []) (now (buf .exit)) r) × (r ≤ at + 1) ⌝ }
 {
     store(buf, at, b);
@@ -38,7 +39,7 @@ fn digit(d: u64) -> u8
 
 // The last `count` digits of n in a base, from the last one to the first.
 fn put_digits(buf: &mut [u8], at: usize, base: u64, count: usize, n: u64) -> usize
-    requires { ⌜ (2 ≤ base) × (base ≤ 16) × (count ≤ 20) × (at ≤ 4096) ⌝ }
+    requires { ⌜ (2 ≤ base) × (base ≤ 16) × (count ≤ 20) × (at ≤ maxPlace) ⌝ }
     ensures { λ r. ⌜ (Put (now (buf .entry)) at (digits base count n) (now (buf .exit)) r) × (r ≤ at + count) ⌝ }
 {
     let mut rest = n;
@@ -69,8 +70,8 @@ fn width(n: u64) -> usize
 
 // A space and a number in decimal.
 pub fn put_number(buf: &mut [u8], at: usize, n: usize) -> usize
-    requires { ⌜ at ≤ 4000 ⌝ }
-    ensures { λ r. ⌜ (Put (now (buf .entry)) at (numberText n) (now (buf .exit)) r) × (r ≤ at + 21) ⌝ }
+    requires { ⌜ at + numberBytes ≤ maxPlace ⌝ }
+    ensures { λ r. ⌜ (Put (now (buf .entry)) at (numberText n) (now (buf .exit)) r) × (r ≤ at + numberBytes) ⌝ }
 {
     let a = put_byte(buf, at, b' ');
     let bits = n as u64;
@@ -80,8 +81,8 @@ pub fn put_number(buf: &mut [u8], at: usize, n: usize) -> usize
 
 // A space and the 16 hexadecimal digits of a double's bits.
 pub fn put_double(buf: &mut [u8], at: usize, x: f64) -> usize
-    requires { ⌜ at ≤ 4000 ⌝ }
-    ensures { λ r. ⌜ (Put (now (buf .entry)) at (doubleText x) (now (buf .exit)) r) × (r ≤ at + 17) ⌝ }
+    requires { ⌜ at + doubleBytes ≤ maxPlace ⌝ }
+    ensures { λ r. ⌜ (Put (now (buf .entry)) at (doubleText x) (now (buf .exit)) r) × (r ≤ at + doubleBytes) ⌝ }
 {
     let a = put_byte(buf, at, b' ');
     let bits = numeric::bits::bits_of(x);

@@ -1,4 +1,3 @@
 // The call that reads a job: the record at a position, by what came before it. Any bytes, any position, any numbers before are taken.
-pub mod fields;
 pub mod read;
 pub mod reader;

@@ -1,8 +1,8 @@
 // One record of a job: the tank made, a heater added, a step run, or the end.
 ghost use mathlib.Core.Path.{_≡_};
-ghost use Rattle.job_run.specs.Job.{Countable, Gives, refusedOutcome, madeOutcome, heaterOutcome, stepOutcome, endOutcome, outcome, endedJob};
-use crate::Job;
-use crate::Printed;
+ghost use Rattle.job_model.specs.Job.{Countable, Gives, refusedRun, madeRun, heaterRun, stepRun, endRun, recordRun, endedJob};
+use job_model::Job;
+use job_model::Printed;
 use job_records::Record;
 use storage_tank::StorageTank;
 use tank_model::Heater;
@@ -21,7 +21,7 @@ fn end_job(j: Job) -> Job
 // E, and the job ends.
 fn refuse(buf: &mut [u8], j: Job, number: u8) -> Printed
     requires { ⌜ Countable j ⌝ }
-    ensures { λ r. ⌜ Gives (refusedOutcome j number) (now (buf .entry)) (now (buf .exit)) r ⌝ }
+    ensures { λ r. ⌜ Gives (refusedRun j number) (now (buf .entry)) (now (buf .exit)) r ⌝ }
 {
     let length = job_lines::lines::refusal_line(buf, number, j.before + j.at);
     let job = end_job(j);
@@ -31,7 +31,7 @@ fn refuse(buf: &mut [u8], j: Job, number: u8) -> Printed
 // A tank with these heaters, or the refusal of making it.
 pub fn make_tank(buf: &mut [u8], j: Job, next: usize, design: TankDesign) -> Printed
     requires { ⌜ Countable j ⌝ }
-    ensures { λ r. ⌜ Gives (madeOutcome j next design) (now (buf .entry)) (now (buf .exit)) r ⌝ }
+    ensures { λ r. ⌜ Gives (madeRun j next design) (now (buf .entry)) (now (buf .exit)) r ⌝ }
 {
     let m = StorageTank::new(design);
     if m.number != 0 {
@@ -49,7 +49,7 @@ pub fn make_tank(buf: &mut [u8], j: Job, next: usize, design: TankDesign) -> Pri
 // A heater more; a ninth is 2.
 pub fn add_heater(buf: &mut [u8], j: Job, next: usize, h: Heater) -> Printed
     requires { ⌜ Countable j ⌝ }
-    ensures { λ r. ⌜ Gives (heaterOutcome j next h) (now (buf .entry)) (now (buf .exit)) r ⌝ }
+    ensures { λ r. ⌜ Gives (heaterRun j next h) (now (buf .entry)) (now (buf .exit)) r ⌝ }
 {
     let d = j.design;
     let number = tank_refusals::checks::heaters_check(d.heaters, 1);
@@ -63,12 +63,12 @@ pub fn add_heater(buf: &mut [u8], j: Job, next: usize, h: Heater) -> Printed
 // A step, refused or not: its lines, and the job goes on.
 fn run_step(buf: &mut [u8], j: Job, next: usize, a: Step) -> Printed
     requires { ⌜ Countable j ⌝ }
-    ensures { λ r. ⌜ Gives (stepOutcome j next a) (now (buf .entry)) (now (buf .exit)) r ⌝ }
+    ensures { λ r. ⌜ Gives (stepRun j next a) (now (buf .entry)) (now (buf .exit)) r ⌝ }
 {
     let before = j.tank;
     let last = j.report;
     let s = before.demand_hot_water(last, a);
-    let length = job_lines::lines::step_lines(buf, j.steps, s);
+    let length = crate::lines::step_lines(buf, j.steps, s);
     let tank = s.tank;
     let report = s.report;
     let mut job = j;
@@ -82,7 +82,7 @@ fn run_step(buf: &mut [u8], j: Job, next: usize, a: Step) -> Printed
 // No record: the input's end, or a refusal with the number of the reader's answer.
 pub fn end_or_refuse(buf: &mut [u8], size: usize, j: Job, number: u8) -> Printed
     requires { ⌜ Countable j ⌝ }
-    ensures { λ r. ⌜ Gives (endOutcome size j number) (now (buf .entry)) (now (buf .exit)) r ⌝ }
+    ensures { λ r. ⌜ Gives (endRun size j number) (now (buf .entry)) (now (buf .exit)) r ⌝ }
 {
     if j.at != size {
         return refuse(buf, j, number);
@@ -97,7 +97,7 @@ pub fn end_or_refuse(buf: &mut [u8], size: usize, j: Job, number: u8) -> Printed
 // The next record of a job: its lines into the lent buffer, and the job after it.
 pub fn next_record(buf: &mut [u8], bytes: &[u8], j: Job) -> Printed
     requires { ⌜ Countable j ⌝ }
-    ensures { λ r. ⌜ Gives (outcome (now (bytes .entry)) j) (now (buf .entry)) (now (buf .exit)) r ⌝ }
+    ensures { λ r. ⌜ Gives (recordRun (now (bytes .entry)) j) (now (buf .entry)) (now (buf .exit)) r ⌝ }
 {
     let d = j.design;
     let r = job_reader::reader::read_at(bytes, j.at, j.has_tank, d.heaters, j.steps != 0);

@@ -2,9 +2,9 @@
 ghost use mathlib.Core.Path.{_≡_};
 ghost use Prim.Native.Nat.{_<_};
 ghost use Rattle.working_order.specs.Order.{maxHeaters};
-ghost use Rattle.job_run.specs.Job.{noReport, designOf, withHeater, noDesign, startJob, stepOf};
-use crate::Job;
+ghost use Rattle.job_model.specs.Job.{noReport, designOf, withHeater, noDesign, startJob, stepOf};
 use draw_events::event::MAX_EVENTS;
+use job_model::Job;
 use job_records::StepRecord;
 use job_records::TankRecord;
 use storage_tank::Report;

@@ -11,11 +11,11 @@ use lib.ListN.{length, getD, take, drop, length-drop}
 use lib.Seq.{getD-take, getD-drop, length-take-le}
 use Rattle.job_records.specs.Bytes.{byteAt}
 use Rattle.job_records.specs.Windows.{Window}
-use Rattle.job_run.specs.declared.Job.{Job}
-use Rattle.job_run.specs.Job.{Outcome}
-use Rattle.job_run.specs.Windows.{windowRecords, Windowed, another}
-use Rattle.job_windows.specs.declared.input.Next.{Next}
-use Rattle.job_windows.specs.Kinds.{maxWindow}
+use Rattle.job_model.specs.declared.Job.{Job}
+use Rattle.job_model.specs.Job.{RecordRun}
+use Rattle.job_model.specs.Windows.{windowRecords, Windowed, another}
+use Rattle.input_window.specs.declared.Next.{Next}
+use Rattle.input_window.specs.Window.{maxWindow}
 use Rattle.job_windows.specs.Input.{Taken, Fed}
 
 -- what lies after a place in a window is a window too
@@ -56,8 +56,8 @@ module _ (s : List ℕ) (k held : ℕ) (before w : List ℕ) (long : held ≤ le
       let c = fed .longer in
       record { inside = omega arith; same = λ i l. each i l (ltb i held) refl }
 
-module _ (f : List ℕ → Job → Outcome) (s : List ℕ) (j : Job) (text : List ℕ) (told : Windowed f s j text) (held : ℕ) (before after : List ℕ) (r : Next) (t : Taken f held before after j r) (long : held ≤ length before) (kept : Window s (j .before) (take held before)) (fed : Fed s (j .before) held (t .w)) where
-  abbrev run : Outcome
+module _ (f : List ℕ → Job → RecordRun) (s : List ℕ) (j : Job) (text : List ℕ) (told : Windowed f s j text) (held : ℕ) (before after : List ℕ) (r : Next) (t : Taken f held before after j r) (long : held ≤ length before) (kept : Window s (j .before) (take held before)) (fed : Fed s (j .before) held (t .w)) where
+  abbrev run : RecordRun
   run = windowRecords f (t .w) (ltb (length (t .w)) maxWindow) (t .records) j
 
   window : Window s (j .before) (t .w)

@@ -1,5 +1,4 @@
 -- The laws of `job_windows`.
 pub mod Told
-pub mod Moved
 pub mod Taken
 pub mod Fed

@@ -3,22 +3,23 @@ use Prim.Native.Nat.{ℕ, _+_, _*_, _-_, _≤_, _<_}
 use native.Mathlib.Omega.{arith}
 use mathlib.Core.Bool.{Bool, false}
 use mathlib.Core.List.{List, _++_}
-use mathlib.Core.Path.{_≡_, refl, sym, ap, _∙_}
+use mathlib.Core.Path.{_≡_, refl, sym, ap, subst, _∙_}
 use lib.Dec.{ltb}
 use lib.ListN.{length, take, drop}
 use lib.Seq.{length-take-le, take-take}
 use Rattle.job_records.specs.Windows.{isReady}
-use Rattle.job_run.specs.declared.Job.{Job}
-use Rattle.job_run.specs.declared.Ran.{Ran}
-use Rattle.job_run.specs.Job.{startJob}
-use Rattle.job_run.specs.Windows.{movedUp, runReady, WindowHanded}
-use Rattle.job_run.proofs.Ends.{Within}
-use Rattle.job_run.proofs.WindowLoop.{run-within}
-use Rattle.job_windows.specs.declared.input.Next.{Next}
-use Rattle.job_windows.specs.Kinds.{linesOf, maxWindow}
+use Rattle.job_model.specs.declared.Job.{Job}
+use Rattle.job_model.specs.declared.Ran.{Ran}
+use Rattle.job_model.specs.Job.{startJob}
+use Rattle.job_model.specs.Windows.{movedUp, runReady, WindowHanded}
+use Rattle.job_model.proofs.Ends.{Within}
+use Rattle.job_model.proofs.WindowLoop.{run-within}
+use Rattle.input_window.specs.declared.Next.{Next}
+use Rattle.input_window.specs.Window.{maxWindow, moved, nextWindow, Left}
+use Rattle.input_window.proofs.Moved.{moved-length, moved-first}
+use Rattle.job_windows.specs.Kinds.{linesOf}
 use Rattle.job_windows.specs.Input.{Open, Taken, WindowTaken}
 use Rattle.job_windows.proofs.Told.{lines-move}
-use Rattle.job_windows.proofs.Moved.{moved, moved-length, moved-first}
 
 module _ (history : Bool) (held count : ℕ) (xs filled : List ℕ) (j : Job) (open-at : Open xs held j) (keeps : take held filled ≡ take held xs) (size : length filled ≡ length xs) (fits : held + count ≤ length xs) where
   abbrev pub end : ℕ
@@ -52,23 +53,23 @@ module _ (history : Bool) (held count : ℕ) (xs filled : List ℕ) (j : Job) (o
         (omega arith, w .counted, rw (run .goes) at (x .1))
 
     -- the next window: what is left of this one, moved down
-    module _ (whole : r .failed ≡ false) (down : List ℕ) (is-down : down ≡ moved (r .job .at) filled (end - r .job .at)) (next : Job) (is-next : next ≡ movedUp (r .job)) where
+    module _ (whole : r .failed ≡ false) (down : List ℕ) (next : Next) (left : Left filled down (r .job) end next) where
       at-job : runReady (linesOf history window) (isReady window last) (run .records) j .job .at ≡ r .job .at
       at-job = ap (λ (i : Job). i .at) (run .goes)
 
       pub moved-size : length down ≡ length xs
       moved-size =
           let p = ran-within .0 in
-          ap length is-down ∙ moved-length (r .job .at) filled (end - r .job .at) (omega arith) ∙ size
+          ap length (left .down) ∙ moved-length (r .job .at) filled (end - r .job .at) (omega arith) ∙ size
 
       first : take (end - r .job .at) down ≡ drop (r .job .at) window
       first =
           let p = ran-within .0 in
           let e : r .job .at + (end - r .job .at) ≡ end = omega arith in
-          ap (take (end - r .job .at)) is-down ∙ moved-first (r .job .at) filled (end - r .job .at) (omega arith) ∙ ap (λ (n : ℕ). drop (r .job .at) (take n filled)) e
+          ap (take (end - r .job .at)) (left .down) ∙ moved-first (r .job .at) filled (end - r .job .at) (omega arith) ∙ ap (λ (n : ℕ). drop (r .job .at) (take n filled)) e
 
-      pub taken : WindowTaken (linesOf history) held xs down j (record { job = next; held = end - r .job .at; failed = false })
-      taken =
+      taken-next : WindowTaken (linesOf history) held xs down j (nextWindow (r .job) end)
+      taken-next =
           let p = ran-within .0 in
           let q = ran-within .1 in
           let l = window-length in
@@ -80,15 +81,18 @@ module _ (history : Bool) (held count : ℕ) (xs filled : List ℕ) (j : Job) (o
               records = run .records;
               keeps = take-take held end filled (omega arith) ∙ keeps;
               fits = let o = open-at .0 in omega arith;
-              goes = rw (← s) (is-next ∙ ap movedUp (sym (run .goes)));
+              goes = rw (← s) (ap movedUp (sym (run .goes)));
               stops = rw (← s) (run .whole whole .1);
               stays = rw (← s) (ap (λ (i : Job). i .before) (run .goes) ∙ ran-within .2);
               within = rw (← s, at-job) (omega arith);
               leaves = rw (← s, at-job) first;
               holds = rw (← s, at-job) (omega arith);
-              counted = rw is-next (omega arith);
+              counted = omega arith;
             };
           }
+
+      pub taken : WindowTaken (linesOf history) held xs down j next
+      taken = subst (WindowTaken (linesOf history) held xs down j) (sym (left .next)) taken-next
 
 -- ---- the loop over windows: the next is open, and no window but the last is counted twice
 pub record Going (buf : List ℕ) (j : Job) (held windows : ℕ) : Type 0 where

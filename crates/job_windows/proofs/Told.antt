@@ -6,11 +6,11 @@ use mathlib.Core.List.{List}
 use mathlib.Core.Path.{_≡_, sym, _∙_}
 use borrow.Author.Tests.{ltb-true, ltb-false}
 use lib.ListN.{length}
-use Rattle.job_run.specs.declared.Job.{Job}
-use Rattle.job_run.specs.declared.Ran.{Ran}
-use Rattle.job_run.specs.Job.{Outcome}
-use Rattle.job_run.specs.Handed.{Sends}
-use Rattle.job_run.proofs.Moves.{Moves, record-moves}
+use Rattle.job_model.specs.declared.Job.{Job}
+use Rattle.job_model.specs.declared.Ran.{Ran}
+use Rattle.job_model.specs.Job.{RecordRun}
+use Rattle.job_model.specs.Handed.{Sends}
+use Rattle.job_model.proofs.Moves.{Moves, record-moves}
 use Rattle.job_history.proofs.HistoryMoves.{history-moves}
 use Rattle.job_windows.specs.Kinds.{linesOf}
 
@@ -20,8 +20,8 @@ lines-move true bytes j = history-moves bytes j
 lines-move false bytes j = record-moves j bytes
 
 -- lines that were sent: all of them, or not
-pub all-sent : (t : Outcome) (r : Ran) → Sends t r → r .failed ≡ false → r .taken ≡ length (t .text)
+pub all-sent : (t : RecordRun) (r : Ran) → Sends t r → r .failed ≡ false → r .taken ≡ length (t .text)
 all-sent t r s e = let a = ltb-false (r .taken) (length (t .text)) (sym (s .told) ∙ e) in let b = s .within in omega arith
 
-pub some-left : (t : Outcome) (r : Ran) → Sends t r → r .failed ≡ true → r .taken < length (t .text)
+pub some-left : (t : RecordRun) (r : Ran) → Sends t r → r .failed ≡ true → r .taken < length (t .text)
 some-left t r s e = ltb-true _ _ (sym (s .told) ∙ e)

@@ -7,19 +7,20 @@ use mathlib.Core.Path.{_≡_}
 use lib.Dec.{ltb}
 use lib.ListN.{length, take, drop}
 use Rattle.job_records.specs.Windows.{Window, isReady}
-use Rattle.job_run.specs.declared.Job.{Job}
-use Rattle.job_run.specs.Job.{Outcome}
-use Rattle.job_run.specs.Windows.{movedUp, windowRecords, Stops}
-use Rattle.job_windows.specs.declared.input.Next.{Next}
-use Rattle.job_windows.specs.Kinds.{maxWindow}
+use Rattle.job_model.specs.declared.Job.{Job}
+use Rattle.job_model.specs.Job.{RecordRun}
+use Rattle.job_model.specs.Windows.{movedUp, windowRecords, Stops}
+use Rattle.input_window.specs.declared.Next.{Next}
+use Rattle.input_window.specs.Window.{maxWindow}
 
 -- a window is begun: so many bytes are held of it, and the job stands at its beginning
 abbrev pub Open : List ℕ → ℕ → Job → Type 0
-Open buf held j = (length buf ≡ maxWindow) × (held ≤ maxWindow) × (j .at ≡ 0) × (16 * j .steps ≤ j .before) × (j .before + maxWindow ≤ 4611686018427387904)
+Open buf held j =
+    (length buf ≡ maxWindow) × (held ≤ maxWindow) × (j .at ≡ 0) × (16 * j .steps ≤ j .before) × (j .before + maxWindow ≤ 4611686018427387904)
 
 -- how the window w was taken, called the last where it is not full: after n records, where the job ends or the next cannot be read in w, the job stands at the
 -- beginning of the next window, which is what is left of w
-pub record Taken (f : List ℕ → Job → Outcome) (held : ℕ) (before after : List ℕ) (j : Job) (r : Next) : Type 0 where
+pub record Taken (f : List ℕ → Job → RecordRun) (held : ℕ) (before after : List ℕ) (j : Job) (r : Next) : Type 0 where
   pub w : List ℕ
   pub records : ℕ
   pub keeps : take held w ≡ take held before
@@ -32,7 +33,7 @@ pub record Taken (f : List ℕ → Job → Outcome) (held : ℕ) (before after :
   pub holds : r .held ≡ length w - windowRecords f w (ltb (length w) maxWindow) records j .job .at
   pub counted : 16 * r .job .steps ≤ r .job .before
 
-pub record WindowTaken (f : List ℕ → Job → Outcome) (held : ℕ) (before after : List ℕ) (j : Job) (r : Next) : Type 0 where
+pub record WindowTaken (f : List ℕ → Job → RecordRun) (held : ℕ) (before after : List ℕ) (j : Job) (r : Next) : Type 0 where
   pub size : length after ≡ length before
   pub taken : r .failed ≡ false → Taken f held before after j r
 

@@ -4,20 +4,14 @@ ghost use Prim.Native.Nat.{_+_, _≤_};
 ghost use lib.ListN.{length, take};
 ghost use Rattle.job_windows.specs.Kinds.{linesOf};
 ghost use Rattle.job_windows.specs.Input.{Open, WindowTaken};
-use crate::window::MAX_WINDOW;
-use job_run::Job;
+use input_window::Next;
+use input_window::window::MAX_WINDOW;
+use job_model::Job;
 use libc::STDERR_FILENO;
 use streams::Filled;
 
 // No input has so many windows: each but the last moves on by half a window at least.
 const MAX_WINDOWS: usize = 4294967296;
-
-// After a window: the job, which stands at the beginning of the next one, how many of that one's bytes are there already, and whether a read or a write failed.
-pub struct Next {
-    pub job: Job,
-    pub held: usize,
-    pub failed: bool,
-}
 
 // Standard input after the bytes held, until the buffer is full or the input ends.
 fn fill_after(program: &[u8], buf: &mut [u8], held: usize) -> Filled
@@ -53,13 +47,7 @@ fn take_window(program: &[u8], buf: &mut [u8], held: usize, job: Job, history: b
             failed: true,
         };
     }
-    let at = next.at;
-    crate::window::move_down(buf, at, end);
-    Next {
-        job: crate::window::moved_up(next),
-        held: end - at,
-        failed: false,
-    }
+    input_window::window::next_window(buf, next, end)
 }
 
 // A job of any length from standard input: its lines, or those of its history, to standard output. A read or a write that fails ends it, and standard error

@@ -1,10 +1,10 @@
 // A record's lines handed on: its figures, as `job` prints them, or its history.
-ghost use Rattle.job_run.specs.Job.{Countable, Gives};
-ghost use Rattle.job_run.specs.Handed.{Sends};
+ghost use Rattle.job_model.specs.Job.{Countable, Gives};
+ghost use Rattle.job_model.specs.Handed.{Sends};
 ghost use Rattle.job_windows.specs.Kinds.{linesOf};
-use job_run::Job;
-use job_run::Printed;
-use job_run::Ran;
+use job_model::Job;
+use job_model::Printed;
+use job_model::Ran;
 
 fn next_lines(buf: &mut [u8], bytes: &[u8], job: Job, history: bool) -> Printed
     requires { ⌜ Countable job ⌝ }

@@ -3,7 +3,7 @@
 ghost use mathlib.Core.Path.{_≡_};
 ghost use Prim.Native.Nat.{_≤_};
 ghost use lib.ListN.{length, drop};
-ghost use Rattle.job_run.specs.Job.{jobText};
+ghost use Rattle.job_model.specs.Job.{jobText};
 ghost use Rattle.replay.specs.Same.{sameText, beginsWith};
 use libc::STDIN_FILENO;
 use libc::STDOUT_FILENO;

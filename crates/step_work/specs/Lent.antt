@@ -9,7 +9,6 @@ use lib.Ieee.{Float, nan}
 use Rattle.numeric.specs.Double.{zero-f}
 use Rattle.mixing.specs.Limits.{maxLayers}
 use Rattle.cylinder.specs.declared.Cylinder.{Cylinder}
-use Rattle.draw_events.specs.declared.Totals.{Totals}
 use Rattle.set_points.specs.declared.SetPoints.{SetPoints}
 use Rattle.immersion_heater.specs.declared.turn.Immersion.{Immersion}
 use Rattle.immersion_heater.specs.Turn.{turn, turnNumber}

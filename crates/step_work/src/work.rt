@@ -109,7 +109,15 @@ pub fn work_step(
     }
     let vol = cylinder::layer_volumes(c);
     let water = Feed { temperature: feed };
-    let d = draw_events::event::draw_events(c, &vol, water, events, volumes, temps, draw_events::no_totals());
+    let d = draw_events::event::draw_events(
+        c,
+        &vol,
+        water,
+        events,
+        volumes,
+        temps,
+        draw_events::no_totals(),
+    );
     if d.number != 0 {
         return refused(d.number, 0);
     }

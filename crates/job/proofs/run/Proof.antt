@@ -1,17 +1,17 @@
 -- `run` meets its contract (01, Job): what is taken so far and what is left of the job are the whole of it, each record leaves fewer, and a write that fails ends the loop.
 use native.Mathlib.Omega.{arith}
 use lib.ListN.{length}
-use Rattle.job_run.specs.Job.{outcome}
-use Rattle.job_run.proofs.Moves.{record-moves}
-use Rattle.job_run.proofs.Ends.{recordsLeft, record-shortens}
-use Rattle.job_run.proofs.Handed.{Handing, handing-start, handing-next, handing-cut, handing-end}
+use Rattle.job_model.specs.Job.{recordRun}
+use Rattle.job_model.proofs.Moves.{record-moves}
+use Rattle.job_model.proofs.Ends.{recordsLeft, record-shortens}
+use Rattle.job_model.proofs.Handed.{Handing, handing-start, handing-next, handing-cut, handing-end}
 use borrow.Author.Needs.{needs}
 use borrow.Author.Tests.{not-true, not-false}
 use Rattle.job.proofs.run.Statement.{statement}
 use Rattle.job.proofs.run.Tie as tie
 
 abbrev Inv-loop : tie.InvT-loop
-Inv-loop bytes job₀ taken₀ job taken = Handing (outcome bytes) (length bytes) job taken
+Inv-loop bytes job₀ taken₀ job taken = Handing (recordRun bytes) (length bytes) job taken
 
 abbrev μ-loop : tie.MeasureT-loop
 μ-loop bytes job₀ taken₀ job taken = recordsLeft (length bytes) (job .ended) (job .at)
@@ -20,7 +20,7 @@ start-requires : tie.Need-start-requires Inv-loop μ-loop
 start-requires c κs = search needs
 
 loop-holds : tie.Need-loop-holds Inv-loop μ-loop
-loop-holds c = rw (c .start .ensures) (handing-start (outcome (c .before .before .args .bytes .now)) (length (c .before .before .args .bytes .now)))
+loop-holds c = rw (c .start .ensures) (handing-start (recordRun (c .before .before .args .bytes .now)) (length (c .before .before .args .bytes .now)))
 
 print-record-requires : tie.Need-print-record-requires Inv-loop μ-loop
 print-record-requires c κs =
@@ -44,27 +44,27 @@ returns c =
     let at = c .before .before .before .before .before .before .loop in
     let p = c .before .before .before .print-record in
     let bytes = c .before .before .before .before .before .before .before .before .before .args .bytes .now in
-    handing-cut (outcome bytes) (length bytes) (λ j. record-moves j bytes) (at .job) (at .taken) (p .result) (at .inv) (not-true _ (c .before .before .before .before .if1 .taken)) (p .ensures) (c .if2 .taken)
+    handing-cut (recordRun bytes) (length bytes) (λ j. record-moves j bytes) (at .job) (at .taken) (p .result) (at .inv) (not-true _ (c .before .before .before .before .if1 .taken)) (p .ensures) (c .if2 .taken)
 
 loop-less : tie.Need-loop-less Inv-loop μ-loop
 loop-less c =
     let at = c .before .before .before .before .before .before .loop in
     let bytes = c .before .before .before .before .before .before .before .before .before .args .bytes .now in
     rw (c .before .before .before .print-record .ensures .goes)
-    (record-shortens (outcome bytes) (length bytes) (λ j. record-moves j bytes) (at .job) (at .inv .printing .within) (not-true _ (c .before .before .before .before .if1 .taken)))
+    (record-shortens (recordRun bytes) (length bytes) (λ j. record-moves j bytes) (at .job) (at .inv .printing .within) (not-true _ (c .before .before .before .before .if1 .taken)))
 
 loop-again : tie.Need-loop-again Inv-loop μ-loop
 loop-again c =
     let at = c .before .before .before .before .before .before .loop in
     let p = c .before .before .before .print-record in
     let bytes = c .before .before .before .before .before .before .before .before .before .args .bytes .now in
-    handing-next (outcome bytes) (length bytes) (λ j. record-moves j bytes) (at .job) (at .taken) (p .result) (at .inv) (not-true _ (c .before .before .before .before .if1 .taken)) (p .ensures) (c .if2 .left)
+    handing-next (recordRun bytes) (length bytes) (λ j. record-moves j bytes) (at .job) (at .taken) (p .result) (at .inv) (not-true _ (c .before .before .before .before .if1 .taken)) (p .ensures) (c .if2 .left)
 
 returns-2 : tie.Need-returns-2 Inv-loop μ-loop
 returns-2 c =
     let at = c .before .before .loop in
     let bytes = c .before .before .before .before .before .args .bytes .now in
-    handing-end (outcome bytes) (length bytes) (at .job) (at .taken) (at .inv) (not-false _ (c .if1 .left))
+    handing-end (recordRun bytes) (length bytes) (at .job) (at .taken) (at .inv) (not-false _ (c .if1 .left))
 
 pub run-spec : {M : Type 1} → statement M
 run-spec =

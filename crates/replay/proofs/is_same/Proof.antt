@@ -3,9 +3,9 @@ use mathlib.Core.Path.{sym, _∙_}
 use native.Mathlib.Omega.{arith}
 use lib.ListN.{length}
 use lib.Seq.{length-take-le}
-use Rattle.job_run.specs.Job.{outcome}
-use Rattle.job_run.proofs.Moves.{record-moves}
-use Rattle.job_run.proofs.Ends.{recordsLeft, record-shortens}
+use Rattle.job_model.specs.Job.{recordRun}
+use Rattle.job_model.proofs.Moves.{record-moves}
+use Rattle.job_model.proofs.Ends.{recordsLeft, record-shortens}
 use Rattle.replay.proofs.Comparing.{Comparing, comparing-start, comparing-next, comparing-differs, comparing-end, compared}
 use borrow.Author.Needs.{needs}
 use borrow.Author.Tests.{not-true, not-false}
@@ -64,7 +64,7 @@ loop-less : tie.Need-loop-less Inv-loop μ-loop
 loop-less c =
     let at = c .before .before .before .before .before .before .before .before .before .before .loop in
     rw (c .before .before .before .before .before .next-record .ensures .goes)
-    (record-shortens (outcome (c .before .before .before .before .before .before .before .before .before .before .before .before .before .before .args .bytes .now)) (length (c .before .before .before .before .before .before .before .before .before .before .before .before .before .before .args .bytes .now)) (λ j. record-moves j (c .before .before .before .before .before .before .before .before .before .before .before .before .before .before .args .bytes .now)) (at .job) (at .inv .within) (not-true _ (c .before .before .before .before .before .before .before .before .if1 .taken)))
+    (record-shortens (recordRun (c .before .before .before .before .before .before .before .before .before .before .before .before .before .before .args .bytes .now)) (length (c .before .before .before .before .before .before .before .before .before .before .before .before .before .before .args .bytes .now)) (λ j. record-moves j (c .before .before .before .before .before .before .before .before .before .before .before .before .before .before .args .bytes .now)) (at .job) (at .inv .within) (not-true _ (c .before .before .before .before .before .before .before .before .if1 .taken)))
 
 loop-again : tie.Need-loop-again Inv-loop μ-loop
 loop-again c =

@@ -27,8 +27,8 @@ same-length c = search needs
 returns : tie.Need-returns
 unfolding acceptedLines
 returns c =
-    let put = put-first (put-then (put-then (put-then (c .before .before .before .before .before .before .before .before .before .before .before .before .before .before .before .put-head .ensures .0) (c .before .before .before .before .before .before .before .before .before .before .before .put-totals .ensures .0)) (c .before .before .before .before .before .before .before .put-layers-line .ensures .0)) (c .before .before .put-heater-lines .ensures .0)) in
-    (rw (← c .before .before .before .before .before .before .before .before .before .before .before .before .before .before .before .before .before .at-most .ensures .0) (put .0), rw (← c .before .before .before .before .before .before .before .before .before .before .before .before .before .before .before .before .before .at-most .ensures .0) (put .1), omega arith)
+    let put = put-first (put-then (put-then (put-then (c .before .before .before .before .before .before .before .before .before .before .before .before .before .before .put-head .ensures .0) (c .before .before .before .before .before .before .before .before .before .before .put-totals .ensures .0)) (c .before .before .before .before .before .before .put-layers-line .ensures .0)) (c .before .before .put-heater-lines .ensures .0)) in
+    (rw (← c .before .before .before .before .before .before .before .before .before .before .before .before .before .before .before .before .at-most .ensures .0) (put .0), rw (← c .before .before .before .before .before .before .before .before .before .before .before .before .before .before .before .before .at-most .ensures .0) (put .1), omega arith)
 
 pub accepted-lines-spec : {M : Type 1} → statement M
 accepted-lines-spec =

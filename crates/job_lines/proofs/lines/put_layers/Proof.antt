@@ -2,6 +2,7 @@
 use mathlib.Core.Path.{_≡_}
 use Prim.Native.Nat.{_+_, _*_, _-_, _≤_}
 use native.Mathlib.Omega.{arith}
+use Rattle.job_lines.specs.Lengths.{doubleBytes}
 use Rattle.job_lines.specs.Put.{Put, put-nothing, put-then, put-length}
 use Rattle.job_lines.specs.Lines.{joined, joined-more, layerText, layersText}
 use borrow.Author.Needs.{needs}
@@ -9,7 +10,7 @@ use Rattle.job_lines.proofs.lines.put_layers.Statement.{statement}
 use Rattle.job_lines.proofs.lines.put_layers.Tie as tie
 
 abbrev Inv-loop : tie.InvT-loop
-Inv-loop buf₀ at n temps a₀ k₀ buf a k = (k ≤ n) × (a ≤ at + 17 * k) × Put buf₀ at (joined (layerText temps) k) buf a
+Inv-loop buf₀ at n temps a₀ k₀ buf a k = (k ≤ n) × (a ≤ at + doubleBytes * k) × Put buf₀ at (joined (layerText temps) k) buf a
 
 abbrev μ-loop : tie.MeasureT-loop
 μ-loop buf₀ at n temps a₀ k₀ buf a k = n - k

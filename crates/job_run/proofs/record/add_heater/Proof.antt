@@ -3,7 +3,7 @@ use Prim.Native.Nat.{_+_}
 use native.Mathlib.Omega.{arith}
 use borrow.Author.Tests.{eq-eqb, ne-eqb}
 use Rattle.tank_refusals.proofs.FirstRefusal.{few-heaters}
-use Rattle.job_run.specs.Job.{heaterOutcome}
+use Rattle.job_model.specs.Job.{heaterRun}
 use borrow.Author.Needs.{needs}
 use Rattle.job_run.proofs.record.add_heater.Statement.{statement}
 use Rattle.job_run.proofs.record.add_heater.Tie as tie
@@ -18,7 +18,7 @@ same-length : tie.Need-same-length
 same-length c = search needs
 
 returns : tie.Need-returns
-unfolding heaterOutcome
+unfolding heaterRun
 returns c = rw (← c .before .before .before .before .before .heaters-check .ensures, ne-eqb _ _ (c .before .before .before .before .if1 .taken)) (c .before .before .refuse .ensures)
 
 with-heater-requires : tie.Need-with-heater-requires
@@ -33,7 +33,7 @@ same-length-2 : tie.Need-same-length-2
 same-length-2 c = search needs
 
 returns-2 : tie.Need-returns-2
-unfolding heaterOutcome
+unfolding heaterRun
 returns-2 c =
     rw (← c .before .before .before .before .before .before .heaters-check .ensures, eq-eqb _ _ (c .before .before .before .before .before .if1 .left), ← c .before .before .before .before .with-heater .ensures)
     (c .before .before .make-tank .ensures)

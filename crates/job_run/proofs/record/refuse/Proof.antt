@@ -1,5 +1,5 @@
 -- `record::refuse` meets its contract (01, Job): the line of the refusal, and the job ended.
-use Rattle.job_run.specs.Job.{refusedOutcome}
+use Rattle.job_model.specs.Job.{refusedRun}
 use borrow.Author.Needs.{needs}
 use Rattle.job_run.proofs.record.refuse.Statement.{statement}
 use Rattle.job_run.proofs.record.refuse.Tie as tie
@@ -17,7 +17,7 @@ same-length : tie.Need-same-length
 same-length c = search needs
 
 returns : tie.Need-returns
-unfolding refusedOutcome
+unfolding refusedRun
 returns c = record { goes = c .end-job .ensures; counts = c .before .before .before .refusal-line .ensures .0; prints = c .before .before .before .refusal-line .ensures .1; short = c .before .before .before .refusal-line .ensures .2 }
 
 pub refuse-spec : {M : Type 1} → statement M

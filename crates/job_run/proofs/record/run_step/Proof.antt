@@ -1,6 +1,6 @@
 -- `record::run_step` meets its contract (01, Job): the step's lines, and one step more.
 use mathlib.Core.Path.{refl}
-use Rattle.job_run.specs.Job.{stepOutcome}
+use Rattle.job_model.specs.Job.{stepRun}
 use borrow.Author.Needs.{needs}
 use Rattle.job_run.proofs.record.run_step.Statement.{statement}
 use Rattle.job_run.proofs.record.run_step.Tie as tie
@@ -18,7 +18,7 @@ same-length : tie.Need-same-length
 same-length c = search needs
 
 returns : tie.Need-returns
-unfolding stepOutcome
+unfolding stepRun
 returns c = rw (← c .before .before .before .before .before .before .before .demand-hot-water .ensures) (record { goes = refl; counts = c .before .before .before .before .before .step-lines .ensures .0; prints = c .before .before .before .before .before .step-lines .ensures .1; short = c .before .before .before .before .before .step-lines .ensures .2 })
 
 pub run-step-spec : {M : Type 1} → statement M

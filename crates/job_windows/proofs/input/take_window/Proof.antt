@@ -49,48 +49,35 @@ returns-2 : tie.Need-returns-2
 returns-2 c =
     record { size = c .before .before .before .before .before .before .before .before .fill-after .ensures .1 .0; taken = λ e. absurd (true≢false e) }
 
-move-down-requires : tie.Need-move-down-requires
-move-down-requires c κs =
+next-window-requires : tie.Need-next-window-requires
+next-window-requires c κs =
     let s = c .before .before .before .before .before .before .before .before .before .before .before .before .before in
     let f = c .before .before .before .before .before .before .before .before .before .fill-after in
     let r = c .before .before .before .run-window in
-    let size = f .ensures .1 .0 in
-    let fits = f .ensures .1 .1 in
-    (ran-within (s .args .history) (s .args .held) (f .result .count) (s .args .buf .now) (f .last .1 .0) (s .args .job) (s .pre) (f .ensures .0) (f .ensures .1 .0) (f .ensures .1 .1) (r .result) (r .ensures) .0, omega arith)
-
-moved-up-requires : tie.Need-moved-up-requires
-moved-up-requires c κs =
-    let s = c .before .before .before .before .before .before .before .before .before .before .before .before .before .before .before .before in
-    let f = c .before .before .before .before .before .before .before .before .before .before .before .before .fill-after in
-    let r = c .before .before .before .before .before .before .run-window in
     let w = ran-within (s .args .history) (s .args .held) (f .result .count) (s .args .buf .now) (f .last .1 .0) (s .args .job) (s .pre) (f .ensures .0) (f .ensures .1 .0) (f .ensures .1 .1) (r .result) (r .ensures) in
     let at = w .0 in
     let before = w .2 in
     let whole = s .pre .0 in
     let bound = s .pre .4 in
+    let size = f .ensures .1 .0 in
     let fits = f .ensures .1 .1 in
-    omega arith
-
-sub-t15 : tie.Need-sub-t15
-sub-t15 c =
-    let s = c .before .before .before .before .before .before .before .before .before .before .before .before .before .before .before .before .before in
-    let f = c .before .before .before .before .before .before .before .before .before .before .before .before .before .fill-after in
-    let r = c .before .before .before .before .before .before .before .run-window in
-    ran-within (s .args .history) (s .args .held) (f .result .count) (s .args .buf .now) (f .last .1 .0) (s .args .job) (s .pre) (f .ensures .0) (f .ensures .1 .0) (f .ensures .1 .1) (r .result) (r .ensures) .0
+    (at, omega arith, omega arith)
 
 same-length-3 : tie.Need-same-length-3
 same-length-3 c =
-    let s = c .before .before .before .before .before .before .before .before .before .before .before .before .before .before .before .before .before in
-    let f = c .before .before .before .before .before .before .before .before .before .before .before .before .before .fill-after in
-    let r = c .before .before .before .before .before .before .before .run-window in
-    moved-size (s .args .history) (s .args .held) (f .result .count) (s .args .buf .now) (f .last .1 .0) (s .args .job) (s .pre) (f .ensures .0) (f .ensures .1 .0) (f .ensures .1 .1) (r .result) (r .ensures) (c .before .before .before .before .before .if2 .left) (c .before .before .before .move-down .last .0) (c .before .before .before .move-down .ensures) (c .moved-up .result) (c .moved-up .ensures)
+    let s = c .before .before .before .before .before .before .before .before .before .before .before .before .before .before .before .before in
+    let f = c .before .before .before .before .before .before .before .before .before .before .before .before .fill-after in
+    let r = c .before .before .before .before .before .before .run-window in
+    let n = c .before .before .next-window in
+    moved-size (s .args .history) (s .args .held) (f .result .count) (s .args .buf .now) (f .last .1 .0) (s .args .job) (s .pre) (f .ensures .0) (f .ensures .1 .0) (f .ensures .1 .1) (r .result) (r .ensures) (c .before .before .before .before .if2 .left) (n .last .0) (n .result) (n .ensures)
 
 returns-3 : tie.Need-returns-3
 returns-3 c =
-    let s = c .before .before .before .before .before .before .before .before .before .before .before .before .before .before .before .before .before in
-    let f = c .before .before .before .before .before .before .before .before .before .before .before .before .before .fill-after in
-    let r = c .before .before .before .before .before .before .before .run-window in
-    taken (s .args .history) (s .args .held) (f .result .count) (s .args .buf .now) (f .last .1 .0) (s .args .job) (s .pre) (f .ensures .0) (f .ensures .1 .0) (f .ensures .1 .1) (r .result) (r .ensures) (c .before .before .before .before .before .if2 .left) (c .before .before .before .move-down .last .0) (c .before .before .before .move-down .ensures) (c .moved-up .result) (c .moved-up .ensures)
+    let s = c .before .before .before .before .before .before .before .before .before .before .before .before .before .before .before .before in
+    let f = c .before .before .before .before .before .before .before .before .before .before .before .before .fill-after in
+    let r = c .before .before .before .before .before .before .run-window in
+    let n = c .before .before .next-window in
+    taken (s .args .history) (s .args .held) (f .result .count) (s .args .buf .now) (f .last .1 .0) (s .args .job) (s .pre) (f .ensures .0) (f .ensures .1 .0) (f .ensures .1 .1) (r .result) (r .ensures) (c .before .before .before .before .if2 .left) (n .last .0) (n .result) (n .ensures)
 
 pub take-window-spec : {M : Type 1} → statement M
 take-window-spec =
@@ -105,8 +92,6 @@ take-window-spec =
     run-window-requires
     same-length-2
     returns-2
-    move-down-requires
-    moved-up-requires
-    sub-t15
+    next-window-requires
     same-length-3
     returns-3)

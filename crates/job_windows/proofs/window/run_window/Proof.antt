@@ -5,8 +5,8 @@ use mathlib.Core.Path.{sym, ap, _∙_}
 use lib.ListN.{length}
 use Rattle.job_records.specs.Windows.{isReady}
 use Rattle.numeric.specs.Holds.{both}
-use Rattle.job_run.proofs.Ends.{recordsLeft, record-shortens}
-use Rattle.job_run.proofs.WindowLoop.{Running, goesOn, running-start, running-next, running-cut}
+use Rattle.job_model.proofs.Ends.{recordsLeft, record-shortens}
+use Rattle.job_model.proofs.WindowLoop.{Running, goesOn, running-start, running-next, running-cut}
 use Rattle.job_windows.specs.Kinds.{linesOf}
 use Rattle.job_windows.proofs.Told.{lines-move, all-sent, some-left}
 use borrow.Author.Tests.{not-true}

@@ -1,9 +1,0 @@
--- The laws of `job_run`.
-pub mod Moves
-pub mod Ends
-pub mod Rest
-pub mod Handed
-pub mod EmptyInput
-pub mod RecordWindow
-pub mod Windowed
-pub mod WindowLoop

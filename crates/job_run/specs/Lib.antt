@@ -1,5 +1,0 @@
--- The definitions of `job_run`: a job, what one record makes of it, all that it prints, and how far a program came that prints it, and a job read window
--- by window.
-pub mod Job
-pub mod Handed
-pub mod Windows
