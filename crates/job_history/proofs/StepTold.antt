@@ -72,7 +72,7 @@ module _ (t : StorageTank) (a : Step) where
       go zero n = absurd (n refl)
       go (suc k) n = unfold begin factsOf in refl
 
-  module _ (passed : stepRefusal (fixedIn t) (stateIn t) a ≡ 0) (temps : List Float) (d : EventAnswer) (drawn : drawingOf temps d ≡ drawAll c (fixedIn t .vol) (feedIn a) (wantedVolumes a) 0 (t .temps) noTotals .end) where
+  module _ (passed : stepRefusal (fixedIn t) (stateIn t) a ≡ 0) (temps : List Float) (d : EventAnswer) (drawn : drawingOf temps d ≡ drawAll c (fixedIn t .vol) (feedIn a) (wantedVolumes a) 0 (t .temps) noTotals) where
     -- what the events leave to the turns
     abbrev after : End DrawOff → List TurnFact
     after e = factsOf (thenTurns (fixedIn t) (stateIn t) a [] e .turns)
