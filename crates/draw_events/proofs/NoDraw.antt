@@ -22,7 +22,7 @@ use Rattle.refill.specs.Refill.{refillLayers, refill}
 use Rattle.draw_events.specs.Event.{unmixed, eventMixing, eventOf, tempsAfterEvent, totalsAfterEvent, drawAll}
 
 pub no-events : (c : Cylinder) (vol : List Float) (feed : Feed) (temps : List Float) (t : Totals)
-    → drawAll c vol feed [] 0 temps t .end ≡ record { number = 0; temps = temps; totals = t }
+    → drawAll c vol feed [] 0 temps t ≡ record { number = 0; temps = temps; totals = t }
 unfolding drawAll
 no-events c vol feed temps t = refl
 

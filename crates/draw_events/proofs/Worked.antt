@@ -39,27 +39,27 @@ event-worked c feed wanted temps t vol held d used given filled mixes after fini
 
 module _ (c : Cylinder) (vol : List Float) (feed : Feed) where
   -- with no event left, the events have come to what they have come to
-  pub events-end : (v : ℕ → Float) (n k : ℕ) (temps : List Float) (t : Totals) (R : Drawing) → n ≤ k → drawAll c vol feed (tabulate v (n - k) k) 0 temps t .end ≡ R → record { number = 0; temps = temps; totals = t } ≡ R
+  pub events-end : (v : ℕ → Float) (n k : ℕ) (temps : List Float) (t : Totals) (R : Drawing) → n ≤ k → drawAll c vol feed (tabulate v (n - k) k) 0 temps t ≡ R → record { number = 0; temps = temps; totals = t } ≡ R
   unfolding tabulate drawAll
   events-end v n k temps t R h left =
       let z : n - k ≡ 0 = omega arith in
       rw z at left
 
-  ended : (vs : List Float) (n : ℕ) (temps : List Float) (t : Totals) → (n ≡ 0 → ⊥) → drawAll c vol feed vs n temps t .end ≡ record { number = n; temps = temps; totals = t }
+  ended : (vs : List Float) (n : ℕ) (temps : List Float) (t : Totals) → (n ≡ 0 → ⊥) → drawAll c vol feed vs n temps t ≡ record { number = n; temps = temps; totals = t }
   unfolding drawAll
   ended [] n temps t h = refl
   ended (v ∷ vs) zero temps t h = absurd (h refl)
   ended (v ∷ vs) (suc n) temps t h = refl
 
   -- the event of the volume v k, which answers a and leaves the layers `after`
-  module _ (v : ℕ → Float) (n k : ℕ) (temps after : List Float) (t : Totals) (a : EventAnswer) (R : Drawing) (h : k < n) (left : drawAll c vol feed (tabulate v (n - k) k) 0 temps t .end ≡ R) (e : drawingOf after a ≡ drawingAfter c (eventOf c vol feed (v k) temps t) t) where
-    next : drawAll c vol feed (tabulate v (n - (k + 1)) (k + 1)) (a .number) after (a .totals) .end ≡ R
+  module _ (v : ℕ → Float) (n k : ℕ) (temps after : List Float) (t : Totals) (a : EventAnswer) (R : Drawing) (h : k < n) (left : drawAll c vol feed (tabulate v (n - k) k) 0 temps t ≡ R) (e : drawingOf after a ≡ drawingAfter c (eventOf c vol feed (v k) temps t) t) where
+    next : drawAll c vol feed (tabulate v (n - (k + 1)) (k + 1)) (a .number) after (a .totals) ≡ R
     unfolding tabulate drawAll
     next =
         let m : n - k ≡ suc (n - (k + 1)) = omega arith in
-        subst (λ (d : Drawing). drawAll c vol feed (tabulate v (n - (k + 1)) (k + 1)) (d .number) (d .temps) (d .totals) .end ≡ R) (sym e) (rw m at left)
+        subst (λ (d : Drawing). drawAll c vol feed (tabulate v (n - (k + 1)) (k + 1)) (d .number) (d .temps) (d .totals) ≡ R) (sym e) (rw m at left)
 
-    pub events-next : a .number ≡ 0 → drawAll c vol feed (tabulate v (n - (k + 1)) (k + 1)) 0 after (a .totals) .end ≡ R
+    pub events-next : a .number ≡ 0 → drawAll c vol feed (tabulate v (n - (k + 1)) (k + 1)) 0 after (a .totals) ≡ R
     events-next z = rw z at next
 
     -- a refused event ends them

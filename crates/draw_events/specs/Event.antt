@@ -84,24 +84,14 @@ pub record Drawing : Type 0 where
   pub temps : List Float
   pub totals : Totals
 
--- the events that were worked, and where they came to
-pub record Drawings : Type 0 where
-  pub events : List Event
-  pub end : Drawing
-
--- no event more, where those before came to d
-abbrev pub noMore : Drawing → Drawings
-noMore d = record { events = []; end = d }
-
 -- the volumes of n events, in the first of these places
 abbrev pub firstVolumes : ℕ → List Float → List Float
 firstVolumes n volumes = tabulate (λ (i : ℕ). getD volumes i nan) n 0
 
--- the events of the volumes vs, from where those before them came to; a refused event ends them
-unfoldable pub drawAll : Cylinder → List Float → Feed → List Float → ℕ → List Float → Totals → Drawings
-drawAll c vol feed [] n temps t = noMore (record { number = n; temps = temps; totals = t })
-drawAll c vol feed (v ∷ vs) (suc n) temps t = noMore (record { number = suc n; temps = temps; totals = t })
+-- where the events of the volumes vs come to, from where those before them came to; a refused event ends them
+unfoldable pub drawAll : Cylinder → List Float → Feed → List Float → ℕ → List Float → Totals → Drawing
+drawAll c vol feed [] n temps t = record { number = n; temps = temps; totals = t }
+drawAll c vol feed (v ∷ vs) (suc n) temps t = record { number = suc n; temps = temps; totals = t }
 drawAll c vol feed (v ∷ vs) zero temps t =
     let e = eventOf c vol feed v temps t in
-    let rest = drawAll c vol feed vs (eventNumber c e t) (tempsAfterEvent e) (totalsAfterEvent c e t) in
-    record { events = e ∷ rest .events; end = rest .end }
+    drawAll c vol feed vs (eventNumber c e t) (tempsAfterEvent e) (totalsAfterEvent c e t)

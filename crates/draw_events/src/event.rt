@@ -128,7 +128,7 @@ pub fn draw_events(
 ) -> EventAnswer
     requires { ⌜ (1 ≤ c .layers) × (c .layers ≤ maxLayers) × (n ≤ maxEvents) ⌝ }
     ensures { λ r. ⌜ drawingOf (now (temps .exit)) r
-        ≡ drawAll c (now (vol .entry)) feed (firstVolumes n (now (volumes .entry))) 0 (now (temps .entry)) totals .end ⌝ }
+        ≡ drawAll c (now (vol .entry)) feed (firstVolumes n (now (volumes .entry))) 0 (now (temps .entry)) totals ⌝ }
 {
     let mut t = totals;
     let mut kept = crate::kept::sum_of_none();

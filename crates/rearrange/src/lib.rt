@@ -1,7 +1,5 @@
 // `rearrange_temperatures`: rounds until order is nondecreasing, the first always run; and the call `mix`.
 pub mod mix;
-pub mod plain;
-pub mod round;
 
 ghost use Prim.Native.Nat.{_≤_};
 ghost use Rattle.mixing.specs.Limits.{maxLayers};
@@ -25,7 +23,7 @@ pub fn rearrange_temperatures(
     while k < limit {
         let round = running_group::round::try_round(n, vol, temps);
         if !round.finite {
-            return crate::plain::rearrange_plain(n, vol, &initial, temps);
+            return plain_mixing::plain::rearrange_plain(n, vol, &initial, temps);
         }
         k += 1;
         if round.sorted {

@@ -4,7 +4,6 @@ ghost use mathlib.Core.Bool.{false, cond};
 ghost use Prim.Native.Nat.{_+_, _≤_, _<_};
 ghost use lib.Ieee.{le};
 ghost use Rattle.mixing.specs.Limits.{maxLayers};
-ghost use Rattle.mixing.specs.Round.{fill};
 ghost use Rattle.layer_joining.specs.Running.{SaysJoins};
 ghost use Rattle.running_group.specs.Rounds.{Started, Ended, PairFollows, RoundLeaves};
 use layer_joining::RunningGroup;
@@ -50,25 +49,13 @@ fn start_group(i: usize, temp: f64, v: f64, below: f64, sorted: bool, met: f64) 
     }
 }
 
-// The layers from bottom to below end take x.
-pub fn fill_group(bottom: usize, end: usize, x: f64, temps: &mut [f64; MAX_LAYERS])
-    requires { ⌜ (bottom ≤ end) × (end ≤ maxLayers) ⌝ }
-    ensures { λ r. ⌜ now (temps .exit) ≡ fill bottom end x (now (temps .entry)) ⌝ }
-{
-    let mut k = bottom;
-    while k < end {
-        temps[k] = x;
-        k += 1;
-    }
-}
-
 // The layers from bottom to below end take x; one layer alone has it already.
 fn end_group(bottom: usize, end: usize, x: f64, temps: &mut [f64; MAX_LAYERS])
     requires { ⌜ (bottom < end) × (end ≤ maxLayers) ⌝ }
     ensures { λ r. ⌜ Ended bottom end x (now (temps .entry)) (now (temps .exit)) ⌝ }
 {
     if bottom + 1 < end {
-        fill_group(bottom, end, x, temps);
+        plain_mixing::round::fill_group(bottom, end, x, temps);
     }
 }
 

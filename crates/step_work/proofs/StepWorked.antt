@@ -35,7 +35,7 @@ abbrev pub drawnAt : Drawing → DrawOff
 drawnAt d = record { temps = d .temps; totals = d .totals }
 
 pub events-run : (f : Fixed) (feed : Feed) (vs : List Float) (s : DrawOff)
-    → let d = drawAll (f .cylinder) (f .vol) feed vs 0 (s .temps) (s .totals) .end in
+    → let d = drawAll (f .cylinder) (f .vol) feed vs 0 (s .temps) (s .totals) in
     run (workEvent f feed) vs s .end ≡ endBy (d .number) (drawnAt d)
 unfolding run workEvent drawAll
 events-run f feed [] s = unfold endBy in refl
@@ -48,9 +48,9 @@ events-run f feed (v ∷ vs) s = go (eventNumber (f .cylinder) e (s .totals)) (e
     s' = record { temps = tempsAfterEvent e; totals = totalsAfterEvent (f .cylinder) e (s .totals) }
 
     rest : ℕ → Drawing
-    rest n = drawAll (f .cylinder) (f .vol) feed vs n (s' .temps) (s' .totals) .end
+    rest n = drawAll (f .cylinder) (f .vol) feed vs n (s' .temps) (s' .totals)
 
-    stopped : (xs : List Float) (n : ℕ) → drawAll (f .cylinder) (f .vol) feed xs (suc n) (s' .temps) (s' .totals) .end .number ≡ suc n
+    stopped : (xs : List Float) (n : ℕ) → drawAll (f .cylinder) (f .vol) feed xs (suc n) (s' .temps) (s' .totals) .number ≡ suc n
     stopped [] n = unfold drawAll in refl
     stopped (x ∷ xs) n = unfold drawAll in refl
 
@@ -114,7 +114,7 @@ module _ (f : Fixed) (st : State) (a : Step) where
     end-only es (done s) = refl
 
     -- `temps` are the layers that the events leave, d what they answer
-    module _ (temps : List Float) (d : EventAnswer) (drawn : drawingOf temps d ≡ drawAll c (f .vol) (feedIn a) (wantedVolumes a) 0 (st .temps) noTotals .end) where
+    module _ (temps : List Float) (d : EventAnswer) (drawn : drawingOf temps d ≡ drawAll c (f .vol) (feedIn a) (wantedVolumes a) 0 (st .temps) noTotals) where
       abbrev drawnOff : DrawOff
       drawnOff = record { temps = temps; totals = d .totals }
 

@@ -18,7 +18,7 @@ abbrev volumeAt : List Float → ℕ → Float
 volumeAt volumes i = getD volumes i nan
 
 abbrev Inv-loop : tie.InvT-loop
-Inv-loop c vol feed n volumes temps₀ t₀ kept₀ k₀ temps t kept k = (k ≤ n) × (drawAll c vol feed (tabulate (volumeAt volumes) (n - k) k) 0 temps t .end ≡ drawAll c vol feed (tabulate (volumeAt volumes) n 0) 0 temps₀ t₀ .end) × IsSumOf vol kept
+Inv-loop c vol feed n volumes temps₀ t₀ kept₀ k₀ temps t kept k = (k ≤ n) × (drawAll c vol feed (tabulate (volumeAt volumes) (n - k) k) 0 temps t ≡ drawAll c vol feed (tabulate (volumeAt volumes) n 0) 0 temps₀ t₀) × IsSumOf vol kept
 
 abbrev μ-loop : tie.MeasureT-loop
 μ-loop c vol feed n volumes temps₀ t₀ kept₀ k₀ temps t kept k = n - k

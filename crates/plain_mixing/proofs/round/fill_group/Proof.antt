@@ -6,8 +6,8 @@ use lib.ListN.{set}
 use lib.Ieee.{Float}
 use Rattle.numeric.specs.Iterate.{Span, span-start, span-next, span-end}
 use borrow.Author.Needs.{needs}
-use Rattle.running_group.proofs.round.fill_group.Statement.{statement}
-use Rattle.running_group.proofs.round.fill_group.Tie as tie
+use Rattle.plain_mixing.proofs.round.fill_group.Statement.{statement}
+use Rattle.plain_mixing.proofs.round.fill_group.Tie as tie
 
 abbrev Inv-loop : tie.InvT-loop
 Inv-loop bottom end x temps₀ k₀ temps k = Span (λ (j : ℕ) (t : List Float). set t j x) end k₀ temps₀ k temps

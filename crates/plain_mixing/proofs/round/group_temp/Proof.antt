@@ -4,8 +4,8 @@ use Rattle.numeric.specs.Iterate.{Rest, rest-start, rest-next, rest-end}
 use Rattle.numeric.specs.Sum2.{addAt, sum2-iterate}
 use Rattle.mixing.specs.Round.{groupTemp, heatTerm, volumeTerm}
 use borrow.Author.Needs.{needs}
-use Rattle.rearrange.proofs.round.group_temp.Statement.{statement}
-use Rattle.rearrange.proofs.round.group_temp.Tie as tie
+use Rattle.plain_mixing.proofs.round.group_temp.Statement.{statement}
+use Rattle.plain_mixing.proofs.round.group_temp.Tie as tie
 
 abbrev Inv-loop : tie.InvT-loop
 Inv-loop n vol temps bottom end heat₀ volume₀ k₀ heat volume k = Rest (addAt (heatTerm vol temps bottom end)) n heat₀ k heat × Rest (addAt (volumeTerm vol bottom end)) n volume₀ k volume

@@ -8,8 +8,8 @@ use Rattle.mixing.specs.Rearrange.{rounds, rearrange}
 use Rattle.mixing.specs.Mix.{answerOf, tempsOf}
 use Rattle.mixing.proofs.Rounds.{rounds-sorted, rounds-none, rounds-next}
 use borrow.Author.Needs.{needs}
-use Rattle.rearrange.proofs.plain.rearrange_plain.Statement.{statement}
-use Rattle.rearrange.proofs.plain.rearrange_plain.Tie as tie
+use Rattle.plain_mixing.proofs.plain.rearrange_plain.Statement.{statement}
+use Rattle.plain_mixing.proofs.plain.rearrange_plain.Tie as tie
 
 abbrev Inv-loop : tie.InvT-loop
 Inv-loop n vol initial temps₀ first limit k₀ temps k = (k ≤ limit) × (rearrange n vol first ≡ rounds (limit - k) false k n vol temps)

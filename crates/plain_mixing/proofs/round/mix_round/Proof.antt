@@ -6,8 +6,8 @@ use Rattle.numeric.specs.Iterate.{Rest, rest-start, rest-next, rest-end}
 use Rattle.mixing.specs.Round.{Walk, pair, oneRound}
 use Rattle.mixing.proofs.Group.{pair-bottom}
 use borrow.Author.Needs.{needs}
-use Rattle.rearrange.proofs.round.mix_round.Statement.{statement}
-use Rattle.rearrange.proofs.round.mix_round.Tie as tie
+use Rattle.plain_mixing.proofs.round.mix_round.Statement.{statement}
+use Rattle.plain_mixing.proofs.round.mix_round.Tie as tie
 
 abbrev Inv-loop : tie.InvT-loop
 Inv-loop n vol temps₀ pairs bottom₀ i₀ temps bottom i = (bottom ≤ i) × Rest (pair n vol) pairs (record { temps = temps₀; bottom = 0 }) i (record { temps = temps; bottom = bottom })

@@ -1,8 +1,8 @@
 -- `round::member_of` meets its contract (01, Mix): the two tests of the definition, in its order.
 use borrow.Author.Tests.{lt-ltb, le-ltb, le-leb, lt-leb}
 use Rattle.mixing.specs.Round.{member}
-use Rattle.rearrange.proofs.round.member_of.Statement.{statement}
-use Rattle.rearrange.proofs.round.member_of.Tie as tie
+use Rattle.plain_mixing.proofs.round.member_of.Statement.{statement}
+use Rattle.plain_mixing.proofs.round.member_of.Tie as tie
 
 returns : tie.Need-returns
 unfolding member

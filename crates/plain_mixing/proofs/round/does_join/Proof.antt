@@ -1,8 +1,8 @@
 -- `round::does_join` meets its contract (01, Mix): hotter, or else narrow-close.
 use Rattle.mixing.specs.Round.{joins}
 use borrow.Author.Needs.{needs}
-use Rattle.rearrange.proofs.round.does_join.Statement.{statement}
-use Rattle.rearrange.proofs.round.does_join.Tie as tie
+use Rattle.plain_mixing.proofs.round.does_join.Statement.{statement}
+use Rattle.plain_mixing.proofs.round.does_join.Tie as tie
 
 returns : tie.Need-returns
 unfolding joins

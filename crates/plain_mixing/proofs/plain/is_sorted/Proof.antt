@@ -4,8 +4,8 @@ use borrow.Author.Tests.{not-true, not-false}
 use Rattle.numeric.specs.Holds.{Passed, passed-start, passed-next, passed-fails, passed-end}
 use Rattle.mixing.specs.Rearrange.{rises, isSorted}
 use borrow.Author.Needs.{needs}
-use Rattle.rearrange.proofs.plain.is_sorted.Statement.{statement}
-use Rattle.rearrange.proofs.plain.is_sorted.Tie as tie
+use Rattle.plain_mixing.proofs.plain.is_sorted.Statement.{statement}
+use Rattle.plain_mixing.proofs.plain.is_sorted.Tie as tie
 
 abbrev Inv-loop : tie.InvT-loop
 Inv-loop n temps pairs i₀ i = Passed (rises temps) pairs i

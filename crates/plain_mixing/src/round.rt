@@ -2,7 +2,7 @@
 ghost use mathlib.Core.Path.{_≡_};
 ghost use Prim.Native.Nat.{_+_, _≤_, _<_};
 ghost use Rattle.mixing.specs.Limits.{maxLayers};
-ghost use Rattle.mixing.specs.Round.{joins, member, groupTemp, walkAt, pair, oneRound};
+ghost use Rattle.mixing.specs.Round.{joins, member, groupTemp, fill, walkAt, pair, oneRound};
 use mixing::limits::MAX_LAYERS;
 
 // A pair joins the group: its lower layer is hotter or narrow-close.
@@ -51,6 +51,18 @@ fn group_temp(
     numeric::sum2::total_of(heat) / numeric::sum2::total_of(volume)
 }
 
+// The layers from bottom to below end take x.
+pub fn fill_group(bottom: usize, end: usize, x: f64, temps: &mut [f64; MAX_LAYERS])
+    requires { ⌜ (bottom ≤ end) × (end ≤ maxLayers) ⌝ }
+    ensures { λ r. ⌜ now (temps .exit) ≡ fill bottom end x (now (temps .entry)) ⌝ }
+{
+    let mut k = bottom;
+    while k < end {
+        temps[k] = x;
+        k += 1;
+    }
+}
+
 // The pair of the layers i and i + 1, where the running group starts at bottom; the answer is where it starts after the pair.
 fn mix_pair(
     n: usize,
@@ -64,7 +76,7 @@ fn mix_pair(
 {
     if does_join(temps[i], temps[i + 1]) {
         let x = group_temp(n, vol, temps, bottom, i + 2);
-        running_group::round::fill_group(bottom, i + 2, x, temps);
+        fill_group(bottom, i + 2, x, temps);
         return bottom;
     }
     i + 1

@@ -1,8 +1,8 @@
 -- `round::mix_pair` meets its contract (01, Mix): the pair joins and the group is filled, or it ends the group.
 use Rattle.mixing.specs.Round.{pair}
 use borrow.Author.Needs.{needs}
-use Rattle.rearrange.proofs.round.mix_pair.Statement.{statement}
-use Rattle.rearrange.proofs.round.mix_pair.Tie as tie
+use Rattle.plain_mixing.proofs.round.mix_pair.Statement.{statement}
+use Rattle.plain_mixing.proofs.round.mix_pair.Tie as tie
 
 mul-does-join : tie.Need-mul-does-join
 mul-does-join c = search needs
