@@ -29,7 +29,7 @@ use Rattle.tank_model.proofs.Members.{all-map, all-both}
 use Rattle.tank_model.proofs.Order.{many-placed, order-below, order-once}
 use Rattle.tank_arrays.specs.Arrays.{twoEach, lineIn, linesIn}
 use Rattle.tank_refusals.proofs.FirstRefusal.{step-counts}
-use Rattle.step_work.specs.Lent.{Notes, notesIn, noNotes, withTurn, withTurns}
+use Rattle.heater_turns.specs.Notes.{Notes, notesIn, noNotes, withTurn, withTurns}
 use Rattle.storage_tank.specs.declared.StorageTank.{StorageTank}
 use Rattle.storage_tank.specs.Tank.{fixedIn, stateIn}
 use Rattle.storage_tank.specs.Answers.{workOf}

@@ -11,7 +11,7 @@ use Rattle.tank_model.specs.declared.Setting.{Setting}
 use Rattle.tank_model.specs.declared.Step.{Step}
 use Rattle.tank_model.specs.Checks.{noSetting}
 use Rattle.tank_model.specs.Work.{zeroLine}
-use Rattle.step_work.specs.Lent.{Notes, noNotes, withTurns}
+use Rattle.heater_turns.specs.Notes.{Notes, noNotes, withTurns}
 use Rattle.storage_tank.specs.declared.StorageTank.{StorageTank}
 use Rattle.storage_tank.specs.Answers.{workOf}
 use Rattle.job_history.specs.declared.TurnFact.{TurnFact}

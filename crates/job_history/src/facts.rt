@@ -5,7 +5,7 @@ ghost use Prim.Native.Nat.{ℕ, _≤_, _<_};
 ghost use lib.ListN.{getD, length};
 ghost use Rattle.working_order.specs.Order.{maxHeaters};
 ghost use Rattle.tank_arrays.specs.Arrays.{lineIn};
-ghost use Rattle.step_work.specs.Lent.{notesIn};
+ghost use Rattle.heater_turns.specs.Notes.{notesIn};
 ghost use Rattle.storage_tank.specs.Calls.{stepped};
 ghost use Rattle.job_history.specs.Facts.{stepTurns, noFact, turnsOf};
 ghost use Rattle.job_history.specs.Lent.{factBy, factsIn, NotedTurns};

@@ -1,3 +1,2 @@
 -- The lemmas that the proofs of a step's code share.
-pub mod TurnLoop
 pub mod StepWorked

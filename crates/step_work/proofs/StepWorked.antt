@@ -24,9 +24,11 @@ use Rattle.tank_model.specs.Run.{End, refused, done, endBy, Run, first, run}
 use Rattle.tank_model.specs.Work.{DrawOff, Outcome, workEvent, feedIn, wantedVolumes, events, averageOf, Heating, Turn, unheated, turns, recoverable, close, thenTurns, begin, Work, work}
 use Rattle.tank_arrays.specs.Arrays.{twoEach, ZeroLines}
 use Rattle.tank_arrays.proofs.LentArrays.{zero-lines}
-use Rattle.step_work.specs.declared.turns.TurnsAnswer.{TurnsAnswer}
+use Rattle.heater_turns.specs.declared.TurnsAnswer.{TurnsAnswer}
 use Rattle.step_work.specs.declared.work.WorkAnswer.{WorkAnswer}
-use Rattle.step_work.specs.Lent.{heatingIn, noTurns, Notes, notesIn, noNotes, withTurns, TurnsEnd, turnsBy, TurnsWorked, StepWorked}
+use Rattle.heater_turns.specs.Notes.{Notes, notesIn, noNotes, withTurns}
+use Rattle.heater_turns.specs.Lent.{heatingIn, noTurns, TurnsEnd, turnsBy, TurnsWorked}
+use Rattle.step_work.specs.Lent.{StepWorked}
 
 -- ---- the events in a row, as `draw_events` works them, are the run of the events
 

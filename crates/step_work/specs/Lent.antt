@@ -1,129 +1,16 @@
--- States how the code holds a step's work (01, Step): the layers, the charged losses, the flags and the lines in lent arrays, the heaters' losses and the
--- number of a refusal in what its parts answer.
-use Prim.Native.Nat.{ℕ, _+_, _≤_, _<_}
+-- States how the code holds a step's work (01, Step): where it ended, and what its turns noted, by what it answers and leaves in lent arrays.
 use mathlib.Core.Path.{_≡_}
-use mathlib.Core.Bool.{Bool, false}
-use mathlib.Core.List.{List, [], _∷_}
-use lib.ListN.{getD, length, set, replicate}
-use lib.Ieee.{Float, nan}
-use Rattle.numeric.specs.Double.{zero-f}
-use Rattle.mixing.specs.Limits.{maxLayers}
-use Rattle.cylinder.specs.declared.Cylinder.{Cylinder}
-use Rattle.set_points.specs.declared.SetPoints.{SetPoints}
-use Rattle.immersion_heater.specs.declared.turn.Immersion.{Immersion}
-use Rattle.immersion_heater.specs.Turn.{turn, turnNumber}
-use Rattle.working_order.specs.Order.{maxHeaters}
-use Rattle.tank_model.specs.declared.Heater.{Heater}
-use Rattle.tank_model.specs.declared.Setting.{Setting}
+use mathlib.Core.Bool.{Bool}
+use mathlib.Core.List.{List}
+use lib.ListN.{length}
+use lib.Ieee.{Float}
 use Rattle.tank_model.specs.declared.Step.{Step}
 use Rattle.tank_model.specs.declared.HeaterLine.{HeaterLine}
-use Rattle.tank_model.specs.Fixed.{placed, immersed, placedHeaters, Fixed, State}
-use Rattle.tank_model.specs.Checks.{noSetting}
-use Rattle.tank_model.specs.Run.{End, refused, done, endBy, Run, run}
-use Rattle.tank_model.specs.Work.{Heating, zeroLine, Turn, lineOf, afterTurn, workTurn, Outcome, recoverable, Work, work}
-use Rattle.tank_arrays.specs.Arrays.{twoEach, fittedIn, linesIn}
-use Rattle.step_work.specs.declared.turns.TurnsAnswer.{TurnsAnswer}
+use Rattle.tank_model.specs.Fixed.{Fixed, State}
+use Rattle.tank_model.specs.Run.{refused, done}
+use Rattle.tank_model.specs.Work.{Outcome, recoverable, Work, work}
+use Rattle.heater_turns.specs.Notes.{Notes, withTurns}
 use Rattle.step_work.specs.declared.work.WorkAnswer.{WorkAnswer}
-
--- the heater x in a tank of n layers
-abbrev pub immersion : ℕ → Heater → Immersion
-immersion n x = immersed n (placed x)
-
--- what make fixed, by what is lent: the cylinder, the layers' volumes and the heaters
-abbrev pub fixedLent : Cylinder → List Float → ℕ → List Float → List Bool → Fixed
-fixedLent c vol n heaters thermostats = record { cylinder = c; vol = vol; heaters = placedHeaters n (fittedIn heaters thermostats) }
-
--- the set points of each heater
-abbrev pub pointsIn : List Setting → ℕ → SetPoints
-pointsIn settings h = getD settings h noSetting .points
-
--- what heating has come to, as the code holds it
-abbrev pub heatingIn : List Float → List Float → List Bool → TurnsAnswer → List Float → List Bool → List ℕ → Heating
-heatingIn temps charged on s figures flags rounds = record {
-  temps = temps;
-  charged = charged;
-  flags = on;
-  losses = s .losses;
-  lines = linesIn figures flags rounds;
-}
-
--- before the first turn
-abbrev pub noTurns : TurnsAnswer
-noTurns = record { number = 0; losses = zero-f; worked = 0 }
-
--- a tank of c's layers and of n heaters can be worked
-pub record CanHeat (c : Cylinder) (n : ℕ) : Type 0 where
-  pub some-layers : 1 ≤ c .layers
-  pub few-layers : c .layers ≤ maxLayers
-  pub few-heaters : n ≤ maxHeaters
-
--- the first n places of an array hold an order of n heaters
-pub record OrderOf (n : ℕ) (order : List ℕ) : Type 0 where
-  pub places : length order ≡ maxHeaters
-  pub below : (k : ℕ) → k < n → getD order k 0 < n
-
--- ---- what the turns write as they go, also those of a step that is refused
-
--- the lines; for each heater its thermostat layer where its turn began, and after all of them where it ended; and whether it ran on
-pub record Notes : Type 0 where
-  pub lines : List HeaterLine
-  pub course : List Float
-  pub ran : List Bool
-
-abbrev pub notesIn : List Float → List Bool → List ℕ → List Float → List Bool → Notes
-notesIn figures flags rounds course ran = record { lines = linesIn figures flags rounds; course = course; ran = ran }
-
--- before the first turn
-abbrev pub noNotes : Notes
-noNotes = record { lines = replicate maxHeaters zeroLine; course = replicate twoEach zero-f; ran = replicate maxHeaters false }
-
--- each in the places of its heater
-abbrev pub withTurn : Turn → Notes → Notes
-withTurn u x = record {
-  lines = set (x .lines) (u .heater) (lineOf (u .turned));
-  course = set (set (x .course) (u .heater) (u .start)) (maxHeaters + u .heater) (u .finish);
-  ran = set (x .ran) (u .heater) (u .turned .ran);
-}
-
-unfoldable pub withTurns : List Turn → Notes → Notes
-withTurns [] x = x
-withTurns (u ∷ us) x = withTurns us (withTurn u x)
-
--- ---- turns that are worked
-
--- the turn of the immersion heater i, given as h, with these set points
-abbrev pub turnFrom : Cylinder → List Float → Immersion → ℕ → SetPoints → Heating → Turn
-turnFrom c vol i h p s =
-    let u = turn c vol i p (s .temps) (s .charged) (getD (s .flags) h false) in
-    record {
-      heater = h;
-      points = p;
-      before = s .temps;
-      start = getD (s .temps) (i .thermostat) nan;
-      turned = u;
-      finish = getD (u .temps) (i .thermostat) nan;
-    }
-
--- the turn u is worked from s to s', noted, and draws this number
-pub record TurnWorked (c : Cylinder) (u : Turn) (s : Heating) (x : Notes) (number : ℕ) (s' : Heating) (x' : Notes) : Type 0 where
-  pub number-is : number ≡ turnNumber c (u .turned)
-  pub leaves : s' ≡ afterTurn (u .heater) (u .turned) s
-  pub notes : x' ≡ withTurn u x
-
--- where turns ended, how many there were, and what they wrote
-pub record TurnsEnd : Type 0 where
-  pub end : End Heating
-  pub worked : ℕ
-  pub notes : Notes
-
--- after n turns, which wrote x, those of the run r
-abbrev pub turnsBy : ℕ → Notes → Run Turn Heating → TurnsEnd
-turnsBy n x r = record { end = r .end; worked = n + length (r .parts); notes = withTurns (r .parts) x }
-
--- the turns of the heaters hs are worked from s to s', or up to the one that ends them
-abbrev pub TurnsWorked : Fixed → List Setting → List ℕ → Heating → Notes → TurnsAnswer → Heating → Notes → Type 0
-TurnsWorked f settings hs s x r s' x' =
-    turnsBy 0 x (run (workTurn f (pointsIn settings)) hs s) ≡ record { end = endBy (r .number) s'; worked = r .worked; notes = x' }
 
 -- s, which an accepted step came to, is what the code answers and leaves
 pub record Left (s : Outcome) (w : WorkAnswer) (temps : List Float) (flags : List Bool) (lines : List HeaterLine) : Type 0 where

@@ -1,3 +1,2 @@
-// A step's work on lent arrays: the heaters' turns in working order, and all of a step as one function.
-pub mod turns;
+// A step's work on lent arrays: checks, events, turns and end as one function.
 pub mod work;

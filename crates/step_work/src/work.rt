@@ -9,7 +9,8 @@ ghost use Rattle.numeric.specs.Double.{_⊘_, zero-f};
 ghost use Rattle.numeric.specs.Close.{wideClose};
 ghost use Rattle.mixing.specs.Limits.{maxLayers};
 ghost use Rattle.tank_arrays.specs.Arrays.{HoldsLines, ZeroLines, fixedWith, stepWith};
-ghost use Rattle.step_work.specs.Lent.{notesIn, StepWorked};
+ghost use Rattle.heater_turns.specs.Notes.{notesIn};
+ghost use Rattle.step_work.specs.Lent.{StepWorked};
 use cylinder::Cylinder;
 use draw_events::Totals;
 use draw_events::event::MAX_EVENTS;
@@ -124,7 +125,7 @@ pub fn work_step(
     let totals = d.totals;
     let average = average_of(c.layers, temps, totals);
     let mut charged = [0.0; MAX_LAYERS];
-    let h = crate::turns::heat_turns(
+    let h = heater_turns::heat_turns(
         c,
         &vol,
         n,

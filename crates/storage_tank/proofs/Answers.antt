@@ -21,7 +21,8 @@ use Rattle.tank_model.proofs.Passes.{tank-passes}
 use Rattle.tank_arrays.specs.Arrays.{heatersOf, thermostatsOf, fixedWith}
 use Rattle.tank_arrays.proofs.LentArrays.{heaters-back}
 use Rattle.step_work.specs.declared.work.WorkAnswer.{WorkAnswer}
-use Rattle.step_work.specs.Lent.{Notes, noNotes, withTurns, Left, StepWorked}
+use Rattle.heater_turns.specs.Notes.{Notes, noNotes, withTurns}
+use Rattle.step_work.specs.Lent.{Left, StepWorked}
 use Rattle.storage_tank.specs.declared.StorageTank.{StorageTank}
 use Rattle.storage_tank.specs.declared.Report.{Report}
 use Rattle.storage_tank.specs.declared.NotedStep.{NotedStep}

@@ -2,7 +2,7 @@
 ghost use mathlib.Core.Path.{_≡_};
 ghost use Rattle.storage_tank.specs.Calls.{stepped};
 ghost use Rattle.storage_tank.specs.Tank.{fixedIn};
-ghost use Rattle.step_work.specs.Lent.{notesIn};
+ghost use Rattle.heater_turns.specs.Notes.{notesIn};
 ghost use Rattle.storage_tank.specs.Answers.{acceptedStep, StepNoted};
 use crate::NotedStep;
 use crate::Report;

@@ -5,7 +5,7 @@ use native.Mathlib.Omega.{arith}
 use mathlib.Core.List.{List}
 use lib.ListN.{length}
 use Rattle.numeric.specs.Copy.{copied}
-use Rattle.step_work.specs.Lent.{notesIn}
+use Rattle.heater_turns.specs.Notes.{notesIn}
 use Rattle.job_history.specs.declared.TurnFact.{TurnFact}
 use Rattle.job_history.specs.declared.Turns.{Turns}
 use Rattle.job_history.specs.Facts.{noFacts, turnsOf}

@@ -6,7 +6,7 @@ use Rattle.tank_model.specs.Fixed.{State}
 use Rattle.tank_arrays.specs.Arrays.{fittedIn, fixedWith, stepWith}
 use Rattle.tank_arrays.proofs.LentArrays.{zeros-hold}
 use Rattle.tank_refusals.proofs.FirstRefusal.{step-counts}
-use Rattle.step_work.proofs.TurnLoop.{start-with}
+use Rattle.heater_turns.proofs.TurnLoop.{start-with}
 use Rattle.step_work.proofs.StepWorked.{zeros-unheated, refused-before, step-refused, drawn-refused, heated-refused, close-refused, step-accepted}
 use borrow.Author.Needs.{needs}
 use Rattle.step_work.proofs.work.work_step.Statement.{statement}

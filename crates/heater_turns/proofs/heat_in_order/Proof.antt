@@ -5,12 +5,13 @@ use native.Mathlib.Omega.{arith}
 use lib.ListN.{take}
 use lib.Seq.{slice}
 use Rattle.tank_arrays.specs.Arrays.{fittedIn, settingsIn, HoldsLines}
-use Rattle.step_work.specs.declared.turns.TurnsAnswer.{TurnsAnswer}
-use Rattle.step_work.specs.Lent.{pointsIn, heatingIn, notesIn}
-use Rattle.step_work.proofs.TurnLoop.{turnsFrom, start-with, loop-done, loop-on, loop-off}
+use Rattle.heater_turns.specs.declared.TurnsAnswer.{TurnsAnswer}
+use Rattle.heater_turns.specs.Notes.{notesIn}
+use Rattle.heater_turns.specs.Lent.{pointsIn, heatingIn}
+use Rattle.heater_turns.proofs.TurnLoop.{turnsFrom, start-with, loop-done, loop-on, loop-off}
 use borrow.Author.Needs.{needs}
-use Rattle.step_work.proofs.turns.heat_in_order.Statement.{statement}
-use Rattle.step_work.proofs.turns.heat_in_order.Tie as tie
+use Rattle.heater_turns.proofs.heat_in_order.Statement.{statement}
+use Rattle.heater_turns.proofs.heat_in_order.Tie as tie
 
 abbrev Inv-loop : tie.InvT-loop
 Inv-loop c vol n heaters thermostats present points order temps₀ charged₀ on₀ figures₀ flags₀ rounds₀ course₀ ran₀ s₀ k₀ temps charged on figures flags rounds course ran s k =

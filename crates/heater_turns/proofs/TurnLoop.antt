@@ -18,7 +18,8 @@ use Rattle.tank_model.specs.Run.{endBy, Run, first, run}
 use Rattle.tank_model.specs.Work.{Heating, Turn, turnOf, afterTurn, workTurn}
 use Rattle.tank_model.proofs.Order.{placed-at}
 use Rattle.tank_arrays.specs.Arrays.{fixedWith}
-use Rattle.step_work.specs.Lent.{immersion, fixedLent, Notes, withTurn, withTurns, turnFrom, TurnsEnd, turnsBy, TurnWorked}
+use Rattle.heater_turns.specs.Notes.{Notes, withTurn, withTurns}
+use Rattle.heater_turns.specs.Lent.{immersion, fixedLent, turnFrom, TurnsEnd, turnsBy, TurnWorked}
 
 -- ---- a run's first part: it goes on, or ends there
 

@@ -7,10 +7,10 @@ use Rattle.mixing.specs.Limits.{maxLayers}
 use Rattle.immersion_heater.specs.declared.turn.Immersion.{Immersion}
 use Rattle.immersion_heater.specs.declared.turn.TurnAnswer.{TurnAnswer}
 use Rattle.tank_model.specs.declared.Heater.{Heater}
-use Rattle.step_work.specs.Lent.{immersion}
+use Rattle.heater_turns.specs.Lent.{immersion}
 use borrow.Author.Needs.{needs}
-use Rattle.step_work.proofs.turns.heat_turn.Statement.{statement}
-use Rattle.step_work.proofs.turns.heat_turn.Tie as tie
+use Rattle.heater_turns.proofs.heat_turn.Statement.{statement}
+use Rattle.heater_turns.proofs.heat_turn.Tie as tie
 
 below : (n : ℕ) (x : Heater) (i : Immersion) → i ≡ immersion n x → 1 ≤ n → n ≤ maxLayers → (i .layer < n) × (i .thermostat < n)
 below n x i e l m = rw e (layer-below n (omega arith) (omega arith) _, layer-below n (omega arith) (omega arith) _)

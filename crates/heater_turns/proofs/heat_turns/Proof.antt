@@ -4,11 +4,11 @@ use native.Mathlib.Omega.{arith}
 use Rattle.working_order.proofs.Entries.{first-entries, entry}
 use Rattle.tank_arrays.specs.Arrays.{fittedIn, settingsIn}
 use Rattle.tank_arrays.proofs.WorkingOrder.{order-lent}
-use Rattle.step_work.specs.Lent.{pointsIn}
-use Rattle.step_work.proofs.TurnLoop.{in-order, same-order}
+use Rattle.heater_turns.specs.Lent.{pointsIn}
+use Rattle.heater_turns.proofs.TurnLoop.{in-order, same-order}
 use borrow.Author.Needs.{needs}
-use Rattle.step_work.proofs.turns.heat_turns.Statement.{statement}
-use Rattle.step_work.proofs.turns.heat_turns.Tie as tie
+use Rattle.heater_turns.proofs.heat_turns.Statement.{statement}
+use Rattle.heater_turns.proofs.heat_turns.Tie as tie
 
 working-order-requires : tie.Need-working-order-requires
 working-order-requires c κs = search needs
