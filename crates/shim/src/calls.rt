@@ -17,6 +17,7 @@ use storage_tank::Report;
 use storage_tank::StorageTank;
 use tank_arrays::arrays::THREE_EACH;
 use tank_arrays::arrays::TWO_EACH;
+use tank_model::StepNumbers;
 use working_order::MAX_HEATERS;
 
 fn number_of(a: MixAnswer) -> u8
@@ -189,15 +190,18 @@ pub extern "C" fn huszmago_step(
     let mut k = [0; MAX_HEATERS];
     let mut course = [0.0; TWO_EACH];
     let mut ran = [false; MAX_HEATERS];
+    let q = StepNumbers {
+        cylinder: c,
+        heaters: counts[1],
+        feed,
+        events: asked[0],
+        entries: asked[1],
+    };
     let w = step_work::work::work_step(
-        c,
-        counts[1],
+        q,
         heaters,
         &has_thermostat,
-        feed,
-        asked[0],
         volumes,
-        asked[1],
         &there,
         points,
         &mut after,

@@ -8,16 +8,16 @@ ghost use lib.ListN.{getD};
 ghost use Rattle.numeric.specs.Double.{_⊘_, zero-f};
 ghost use Rattle.numeric.specs.Close.{wideClose};
 ghost use Rattle.mixing.specs.Limits.{maxLayers};
-ghost use Rattle.tank_arrays.specs.Arrays.{HoldsLines, ZeroLines, fixedWith, stepWith};
+ghost use Rattle.tank_arrays.specs.Arrays.{HoldsLines, ZeroLines, fixedFor, stepFor};
 ghost use Rattle.heater_turns.specs.Notes.{notesIn};
 ghost use Rattle.step_work.specs.Lent.{StepWorked};
-use cylinder::Cylinder;
 use draw_events::Totals;
 use draw_events::event::MAX_EVENTS;
 use draw_off::cold::Feed;
 use mixing::limits::MAX_LAYERS;
 use tank_arrays::arrays::THREE_EACH;
 use tank_arrays::arrays::TWO_EACH;
+use tank_model::StepNumbers;
 use working_order::MAX_HEATERS;
 
 // Weighted sum / volume drawn, or the top layer if that volume is wide-close to 0.
@@ -65,14 +65,10 @@ fn refused(number: u8, turns: usize) -> WorkAnswer
 // A step's work, from checks to end, on what both calls lend: accepted, the layers, the heaters' flags `on` and the report's lines are what the step leaves.
 // Accepted or refused, the lines, `course` and `ran` hold what its turns wrote.
 pub fn work_step(
-    c: Cylinder,
-    n: usize,
+    q: StepNumbers,
     heaters: &[f64; THREE_EACH],
     thermostats: &[bool; MAX_HEATERS],
-    feed: f64,
-    events: usize,
     volumes: &[f64; MAX_EVENTS],
-    entries: usize,
     present: &[bool; TWO_EACH],
     points: &[f64; TWO_EACH],
     temps: &mut [f64; MAX_LAYERS],
@@ -84,37 +80,36 @@ pub fn work_step(
     ran: &mut [bool; MAX_HEATERS],
 ) -> WorkAnswer
     requires { ⌜ ZeroLines (now figures) (now flags) (now rounds) ⌝ }
-    ensures { λ r. ⌜ StepWorked (fixedWith c n (now (heaters .entry)) (now (thermostats .entry)))
+    ensures { λ r. ⌜ StepWorked (fixedFor q (now (heaters .entry)) (now (thermostats .entry)))
         (record { temps = now (temps .entry); flags = now (on .entry) })
-        (stepWith feed events (now (volumes .entry)) entries (now (present .entry)) (now (points .entry)))
+        (stepFor q (now (volumes .entry)) (now (present .entry)) (now (points .entry)))
         r (now (temps .exit)) (now (on .exit))
         (notesIn (now (figures .entry)) (now (flags .entry)) (now (rounds .entry)) (now (course .entry)) (now (ran .entry)))
         (notesIn (now (figures .exit)) (now (flags .exit)) (now (rounds .exit)) (now (course .exit)) (now (ran .exit)))
         × (r .number ≡ 0 → HoldsLines (now (figures .exit)) (now (flags .exit)) (now (rounds .exit))) ⌝ }
 {
     let k = tank_refusals::refusals::lent_refusal(
-        c,
-        n,
+        q,
         temps,
         heaters,
         thermostats,
-        feed,
-        events,
         volumes,
-        entries,
         present,
         points,
     );
     if k != 0 {
         return refused(k, 0);
     }
+    let c = q.cylinder;
     let vol = cylinder::layer_volumes(c);
-    let water = Feed { temperature: feed };
+    let water = Feed {
+        temperature: q.feed,
+    };
     let d = draw_events::event::draw_events(
         c,
         &vol,
         water,
-        events,
+        q.events,
         volumes,
         temps,
         draw_events::no_totals(),
@@ -128,7 +123,7 @@ pub fn work_step(
     let h = heater_turns::heat_turns(
         c,
         &vol,
-        n,
+        q.heaters,
         heaters,
         thermostats,
         present,

@@ -15,6 +15,7 @@ use tank_arrays::arrays::THREE_EACH;
 use tank_arrays::arrays::TWO_EACH;
 use tank_model::HeaterLine;
 use tank_model::Step;
+use tank_model::StepNumbers;
 use working_order::MAX_HEATERS;
 
 pub fn cylinder_in(t: StorageTank) -> Cylinder
@@ -87,15 +88,18 @@ pub fn noted_step(
     let c = cylinder_in(t);
     let mut temps = t.temps;
     let mut on = t.flags;
+    let q = StepNumbers {
+        cylinder: c,
+        heaters: t.heaters,
+        feed: a.feed,
+        events: a.events,
+        entries: a.entries,
+    };
     let w = step_work::work::work_step(
-        c,
-        t.heaters,
+        q,
         &heaters,
         &thermostats,
-        a.feed,
-        a.events,
         &a.volumes,
-        a.entries,
         &present,
         &points,
         &mut temps,

@@ -17,6 +17,7 @@ use Rattle.tank_model.specs.declared.Heater.{Heater}
 use Rattle.tank_model.specs.declared.HeaterLine.{HeaterLine}
 use Rattle.tank_model.specs.declared.Setting.{Setting}
 use Rattle.tank_model.specs.declared.Step.{Step}
+use Rattle.tank_model.specs.declared.StepNumbers.{StepNumbers}
 use Rattle.tank_model.specs.Fixed.{noHeater, Fixed, placedHeaters, fixedBy}
 use Rattle.tank_model.specs.Checks.{noSetting}
 
@@ -112,3 +113,10 @@ stepWith feed events volumes entries present points = record {
   entries = entries;
   settings = settingsIn present points;
 }
+
+-- both from the numbers of a step whose arrays are lent
+abbrev pub fixedFor : StepNumbers → List Float → List Bool → Fixed
+fixedFor q heaters thermostats = fixedWith (q .cylinder) (q .heaters) heaters thermostats
+
+abbrev pub stepFor : StepNumbers → List Float → List Bool → List Float → Step
+stepFor q volumes present points = stepWith (q .feed) (q .events) volumes (q .entries) present points

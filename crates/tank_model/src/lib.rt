@@ -1,6 +1,7 @@
 // What a tank is made from, what a step asks of it, and what it reports of a heater.
 // The work of a step, and of a list of calls, is defined over these (`specs/`).
 // A count may be any number; what is past it in an array is not looked at.
+use cylinder::Cylinder;
 use draw_events::event::MAX_EVENTS;
 use set_points::SetPoints;
 use working_order::MAX_HEATERS;
@@ -49,4 +50,13 @@ pub struct HeaterLine {
     pub supplied: f64,
     pub losses: f64,
     pub rounds: usize,
+}
+
+// The numbers of a step whose arrays are lent: the cylinder's, how many heaters it has, and the step's own beside its volumes and set points.
+pub struct StepNumbers {
+    pub cylinder: Cylinder,
+    pub heaters: usize,
+    pub feed: f64,
+    pub events: usize,
+    pub entries: usize,
 }

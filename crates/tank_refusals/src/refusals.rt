@@ -10,13 +10,14 @@ ghost use Rattle.working_order.specs.Order.{maxHeaters};
 ghost use Rattle.tank_model.specs.Fixed.{fixedOf};
 ghost use Rattle.tank_model.specs.FirstRefusal.{firstRefusal};
 ghost use Rattle.tank_model.specs.Checks.{tankChecks, makeRefusal};
-ghost use Rattle.tank_arrays.specs.Arrays.{fixedWith, stepWith};
+ghost use Rattle.tank_arrays.specs.Arrays.{fixedWith, stepWith, fixedFor, stepFor};
 ghost use Rattle.tank_refusals.specs.Refusals.{FirstOfStep, RefusedFor};
 use cylinder::Cylinder;
 use draw_events::event::MAX_EVENTS;
 use mixing::limits::MAX_LAYERS;
 use tank_arrays::arrays::THREE_EACH;
 use tank_arrays::arrays::TWO_EACH;
+use tank_model::StepNumbers;
 use tank_model::TankDesign;
 use working_order::MAX_HEATERS;
 
@@ -108,27 +109,32 @@ fn are_stored_finite(n: usize, temps: &[f64; MAX_LAYERS]) -> bool
     cylinder::are_finite(n, temps)
 }
 
-// Of a tank of n heaters and a step, in lent arrays.
+// Of a tank and a step in lent arrays.
 pub fn lent_refusal(
-    c: Cylinder,
-    n: usize,
+    q: StepNumbers,
     temps: &[f64; MAX_LAYERS],
     heaters: &[f64; THREE_EACH],
     thermostats: &[bool; MAX_HEATERS],
-    feed: f64,
-    events: usize,
     volumes: &[f64; MAX_EVENTS],
-    entries: usize,
     present: &[bool; TWO_EACH],
     points: &[f64; TWO_EACH],
 ) -> u8
-    ensures { λ r. ⌜ RefusedFor (fixedWith c n (now (heaters .entry)) (now (thermostats .entry))) (now (temps .entry))
-        (stepWith feed events (now (volumes .entry)) entries (now (present .entry)) (now (points .entry))) r ⌝ }
+    ensures { λ r. ⌜ RefusedFor (fixedFor q (now (heaters .entry)) (now (thermostats .entry))) (now (temps .entry))
+        (stepFor q (now (volumes .entry)) (now (present .entry)) (now (points .entry))) r ⌝ }
 {
+    let c = q.cylinder;
     let finite = are_stored_finite(c.layers, temps);
-    let k = tank_refusal(c, n, heaters, thermostats, finite);
+    let k = tank_refusal(c, q.heaters, heaters, thermostats, finite);
     if k != 0 {
         return k;
     }
-    step_refusal(n, feed, events, volumes, entries, present, points)
+    step_refusal(
+        q.heaters,
+        q.feed,
+        q.events,
+        volumes,
+        q.entries,
+        present,
+        points,
+    )
 }

@@ -13,26 +13,26 @@ use Rattle.shim.proofs.calls.huszmago_step.Tie as tie
 lengths-told-requires : tie.Need-lengths-told-requires
 lengths-told-requires c κs = search needs
 
-element-copy-out-work-step : tie.Need-element-copy-out-work-step
-element-copy-out-work-step c = search needs
+element-copy-out-t37 : tie.Need-element-copy-out-t37
+element-copy-out-t37 c = search needs
 
-element-copy-out-t39 : tie.Need-element-copy-out-t39
-element-copy-out-t39 c = search needs
+element-copy-out-t40 : tie.Need-element-copy-out-t40
+element-copy-out-t40 c = search needs
 
-element-copy-out-t42 : tie.Need-element-copy-out-t42
-element-copy-out-t42 c = search needs
+element-copy-out-t43 : tie.Need-element-copy-out-t43
+element-copy-out-t43 c = search needs
 
-element-copy-out-t45 : tie.Need-element-copy-out-t45
-element-copy-out-t45 c = search needs
+element-copy-out-t46 : tie.Need-element-copy-out-t46
+element-copy-out-t46 c = search needs
 
-element-copy-out-t48 : tie.Need-element-copy-out-t48
-element-copy-out-t48 c = search needs
+element-copy-out-t49 : tie.Need-element-copy-out-t49
+element-copy-out-t49 c = search needs
 
-element-copy-out-t51 : tie.Need-element-copy-out-t51
-element-copy-out-t51 c = search needs
+element-copy-out-t52 : tie.Need-element-copy-out-t52
+element-copy-out-t52 c = search needs
 
-element-copy-out-t54 : tie.Need-element-copy-out-t54
-element-copy-out-t54 c = search needs
+element-copy-out-t55 : tie.Need-element-copy-out-t55
+element-copy-out-t55 c = search needs
 
 flags-in-requires : tie.Need-flags-in-requires
 flags-in-requires c κs = search needs
@@ -43,14 +43,14 @@ present-in-requires c κs = search needs
 flags-in-requires-2 : tie.Need-flags-in-requires-2
 flags-in-requires-2 c κs = search needs
 
-element-copy-out-work-step-2 : tie.Need-element-copy-out-work-step-2
-element-copy-out-work-step-2 c = search needs
+element-copy-out-t37-2 : tie.Need-element-copy-out-t37-2
+element-copy-out-t37-2 c = search needs
 
-element-copy-out-work-step-3 : tie.Need-element-copy-out-work-step-3
-element-copy-out-work-step-3 c = search needs
+element-copy-out-t65 : tie.Need-element-copy-out-t65
+element-copy-out-t65 c = search needs
 
-element-copy-out-work-step-4 : tie.Need-element-copy-out-work-step-4
-element-copy-out-work-step-4 c = search needs
+element-copy-out-t68 : tie.Need-element-copy-out-t68
+element-copy-out-t68 c = search needs
 
 work-step-requires : tie.Need-work-step-requires
 work-step-requires c κs = record { figures-zero = refl; flags-zero = refl; rounds-zero = refl }
@@ -92,19 +92,19 @@ huszmago-step-spec =
     tie.close
     (tie.spec
     lengths-told-requires
-    element-copy-out-work-step
-    element-copy-out-t39
-    element-copy-out-t42
-    element-copy-out-t45
-    element-copy-out-t48
-    element-copy-out-t51
-    element-copy-out-t54
+    element-copy-out-t37
+    element-copy-out-t40
+    element-copy-out-t43
+    element-copy-out-t46
+    element-copy-out-t49
+    element-copy-out-t52
+    element-copy-out-t55
     flags-in-requires
     present-in-requires
     flags-in-requires-2
-    element-copy-out-work-step-2
-    element-copy-out-work-step-3
-    element-copy-out-work-step-4
+    element-copy-out-t37-2
+    element-copy-out-t65
+    element-copy-out-t68
     work-step-requires
     returns
     bytes-of-requires
