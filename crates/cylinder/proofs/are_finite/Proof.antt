@@ -25,26 +25,11 @@ abbrev μ-loop : tie.MeasureT-loop
 loop-holds : tie.Need-loop-holds Inv-loop μ-loop
 loop-holds c = passed-start _ _
 
-mul-is-finite : tie.Need-mul-is-finite Inv-loop μ-loop
-mul-is-finite c = search needs
-
-element-copy-out-is-finite : tie.Need-element-copy-out-is-finite Inv-loop μ-loop
-element-copy-out-is-finite c = search needs
-
-is-finite-requires : tie.Need-is-finite-requires Inv-loop μ-loop
-is-finite-requires c κs = search needs
-
 returns : tie.Need-returns Inv-loop μ-loop
 unfolding allFinite
 returns c =
     let test = c .before .before .before in
     passed-fails _ _ _ (test .loop-test .taken) (sym (c .before .is-finite .ensures) ∙ not-true _ (c .if1 .taken)) (test .before .loop .inv)
-
-add-k : tie.Need-add-k Inv-loop μ-loop
-add-k c = search needs
-
-loop-less : tie.Need-loop-less Inv-loop μ-loop
-loop-less c = search needs
 
 loop-again : tie.Need-loop-again Inv-loop μ-loop
 loop-again c =
@@ -62,11 +47,11 @@ are-finite-spec =
     Inv-loop
     μ-loop
     loop-holds
-    mul-is-finite
-    element-copy-out-is-finite
-    is-finite-requires
+    (λ c. search needs)
+    (λ c. search needs)
+    (λ c κs. search needs)
     returns
-    add-k
-    loop-less
+    (λ c. search needs)
+    (λ c. search needs)
     loop-again
     returns-2)

@@ -4,12 +4,9 @@ use borrow.Author.Needs.{needs}
 use Rattle.cylinder.proofs.layer_volumes.Statement.{statement}
 use Rattle.cylinder.proofs.layer_volumes.Tie as tie
 
-layer-volume-requires : tie.Need-layer-volume-requires
-layer-volume-requires c κs = search needs
-
 returns : tie.Need-returns
 unfolding layerVolumes
 returns c = rw (c .layer-volume .ensures)
 
 pub layer-volumes-spec : {M : Type 1} → statement M
-layer-volumes-spec = tie.close (tie.spec layer-volume-requires returns)
+layer-volumes-spec = tie.close (tie.spec (λ c κs. search needs) returns)

@@ -12,11 +12,8 @@ returns c =
     let a = c .before in
     inr (refl, equal-same (a .args .c) (a .args .b) (passes _ (a .good .1 .1 .0 .1)) (passes _ (a .good .1 .0 .1)) (c .if1 .taken))
 
-add-term-requires : tie.Need-add-term-requires
-add-term-requires c κs = search needs
-
 returns-2 : tie.Need-returns-2
 returns-2 c = inl (c .add-term .ensures)
 
 pub add-known-spec : {M : Type 1} → statement M
-add-known-spec = tie.close (tie.spec returns add-term-requires returns-2)
+add-known-spec = tie.close (tie.spec returns (λ c κs. search needs) returns-2)

@@ -16,26 +16,8 @@ Inv-loop vol bottom end x heat₀ k₀ heat k = Span (addAt (λ (j : ℕ). getD 
 abbrev μ-loop : tie.MeasureT-loop
 μ-loop vol bottom end x heat₀ k₀ heat k = end - k
 
-start-requires : tie.Need-start-requires Inv-loop μ-loop
-start-requires c κs = search needs
-
 loop-holds : tie.Need-loop-holds Inv-loop μ-loop
 loop-holds c = span-start _ _ _ _ (omega arith)
-
-mul-add-term : tie.Need-mul-add-term Inv-loop μ-loop
-mul-add-term c = search needs
-
-element-copy-out-add-term : tie.Need-element-copy-out-add-term Inv-loop μ-loop
-element-copy-out-add-term c = search needs
-
-add-term-requires : tie.Need-add-term-requires Inv-loop μ-loop
-add-term-requires c κs = search needs
-
-add-k : tie.Need-add-k Inv-loop μ-loop
-add-k c = search needs
-
-loop-less : tie.Need-loop-less Inv-loop μ-loop
-loop-less c = search needs
 
 loop-again : tie.Need-loop-again Inv-loop μ-loop
 loop-again c = rw (c .add-term .ensures) (span-next _ _ _ _ _ _ (c .before .before .loop-test .taken) (c .before .before .before .loop .inv))
@@ -49,12 +31,12 @@ heat-at-spec =
     (tie.spec
     Inv-loop
     μ-loop
-    start-requires
+    (λ c κs. search needs)
     loop-holds
-    mul-add-term
-    element-copy-out-add-term
-    add-term-requires
-    add-k
-    loop-less
+    (λ c. search needs)
+    (λ c. search needs)
+    (λ c κs. search needs)
+    (λ c. search needs)
+    (λ c. search needs)
     loop-again
     returns)

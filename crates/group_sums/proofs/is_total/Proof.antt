@@ -5,12 +5,6 @@ use borrow.Author.Needs.{needs}
 use Rattle.group_sums.proofs.is_total.Statement.{statement}
 use Rattle.group_sums.proofs.is_total.Tie as tie
 
-total-of-requires : tie.Need-total-of-requires
-total-of-requires c κs = search needs
-
-is-same-requires : tie.Need-is-same-requires
-is-same-requires c κs = search needs
-
 returns : tie.Need-returns
 returns c = λ e. sym (c .before .total-of .ensures) ∙ c .is-same .ensures .1 e (c .before .before .if1 .taken)
 
@@ -18,4 +12,4 @@ returns-2 : tie.Need-returns-2
 returns-2 c = λ e. absurd (true≢false (sym e))
 
 pub is-total-spec : {M : Type 1} → statement M
-is-total-spec = tie.close (tie.spec total-of-requires is-same-requires returns returns-2)
+is-total-spec = tie.close (tie.spec (λ c κs. search needs) (λ c κs. search needs) returns returns-2)

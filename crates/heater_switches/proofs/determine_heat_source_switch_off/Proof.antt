@@ -4,15 +4,6 @@ use borrow.Author.Needs.{needs}
 use Rattle.heater_switches.proofs.determine_heat_source_switch_off.Statement.{statement}
 use Rattle.heater_switches.proofs.determine_heat_source_switch_off.Tie as tie
 
-has-upper-requires : tie.Need-has-upper-requires
-has-upper-requires c κs = search needs
-
-upper-of-requires : tie.Need-upper-of-requires
-upper-of-requires c κs = search needs
-
-is-reached-requires : tie.Need-is-reached-requires
-is-reached-requires c κs = search needs
-
 returns : tie.Need-returns
 unfolding switchOff upperMissingOrReached
 returns c =
@@ -32,4 +23,4 @@ returns-3 c = rw (← c .before .has-upper .ensures, c .if1 .left)
 pub determine-heat-source-switch-off-spec : {M : Type 1} → statement M
 determine-heat-source-switch-off-spec =
     tie.close
-    (tie.spec has-upper-requires upper-of-requires is-reached-requires returns returns-2 returns-3)
+    (tie.spec (λ c κs. search needs) (λ c κs. search needs) (λ c κs. search needs) returns returns-2 returns-3)

@@ -4,12 +4,6 @@ use borrow.Author.Needs.{needs}
 use Rattle.heater_switches.proofs.determine_heat_source_switch_on.Statement.{statement}
 use Rattle.heater_switches.proofs.determine_heat_source_switch_on.Tie as tie
 
-has-upper-requires : tie.Need-has-upper-requires
-has-upper-requires c κs = search needs
-
-is-at-or-under-lower-requires : tie.Need-is-at-or-under-lower-requires
-is-at-or-under-lower-requires c κs = search needs
-
 returns : tie.Need-returns
 unfolding switchOn
 returns c = rw (← c .before .before .before .has-upper .ensures, c .before .before .if1 .taken, ← c .before .is-at-or-under-lower .ensures, c .if2 .taken)
@@ -25,4 +19,4 @@ returns-3 c = rw (← c .before .has-upper .ensures, c .if1 .left)
 pub determine-heat-source-switch-on-spec : {M : Type 1} → statement M
 determine-heat-source-switch-on-spec =
     tie.close
-    (tie.spec has-upper-requires is-at-or-under-lower-requires returns returns-2 returns-3)
+    (tie.spec (λ c κs. search needs) (λ c κs. search needs) returns returns-2 returns-3)

@@ -4,24 +4,6 @@ use borrow.Author.Needs.{needs}
 use Rattle.heater_switches.proofs.is_at_or_under_lower.Statement.{statement}
 use Rattle.heater_switches.proofs.is_at_or_under_lower.Tie as tie
 
-enum-told : tie.Need-enum-told
-enum-told c = search needs
-
-enum-known-p : tie.Need-enum-known-p
-enum-known-p c = search needs
-
-is-at-or-under-requires : tie.Need-is-at-or-under-requires
-is-at-or-under-requires c κs = search needs
-
-enum-told-2 : tie.Need-enum-told-2
-enum-told-2 c = search needs
-
-enum-known-p-2 : tie.Need-enum-known-p-2
-enum-known-p-2 c = search needs
-
-is-at-or-under-requires-2 : tie.Need-is-at-or-under-requires-2
-is-at-or-under-requires-2 c κs = search needs
-
 returns : tie.Need-returns
 unfolding atOrUnderLower
 returns c = search needs
@@ -42,12 +24,12 @@ pub is-at-or-under-lower-spec : {M : Type 1} → statement M
 is-at-or-under-lower-spec =
     tie.close
     (tie.spec
-    enum-told
-    enum-known-p
-    is-at-or-under-requires
-    enum-told-2
-    enum-known-p-2
-    is-at-or-under-requires-2
+    (λ c. search needs)
+    (λ c. search needs)
+    (λ c κs. search needs)
+    (λ c. search needs)
+    (λ c. search needs)
+    (λ c κs. search needs)
     returns
     returns-2
     returns-3

@@ -8,15 +8,9 @@ use Rattle.heater_switches.proofs.is_reached.Tie as tie
 returns : tie.Need-returns
 returns c = rw (c .if1 .taken)
 
-is-close-below-requires : tie.Need-is-close-below-requires
-is-close-below-requires c κs = search needs
-
 returns-2 : tie.Need-returns-2
 unfolding narrowClose
 returns-2 c = rw (c .before .before .if1 .left, c .is-close-below .ensures narrow-finite (c .before .if2 .taken))
-
-is-narrow-close-requires : tie.Need-is-narrow-close-requires
-is-narrow-close-requires c κs = search needs
 
 returns-3 : tie.Need-returns-3
 returns-3 c = rw (c .before .before .if1 .left, c .is-narrow-close .ensures)
@@ -24,4 +18,4 @@ returns-3 c = rw (c .before .before .if1 .left, c .is-narrow-close .ensures)
 pub is-reached-spec : {M : Type 1} → statement M
 is-reached-spec =
     tie.close
-    (tie.spec returns is-close-below-requires returns-2 is-narrow-close-requires returns-3)
+    (tie.spec returns (λ c κs. search needs) returns-2 (λ c κs. search needs) returns-3)

@@ -26,17 +26,8 @@ abbrev μ-loop : tie.MeasureT-loop
 μ-loop c vol n heaters thermostats present points order temps₀ charged₀ on₀ figures₀ flags₀ rounds₀ course₀ ran₀ s₀ k₀ temps charged on figures flags rounds course ran s k =
     n - k
 
-no-turns-requires : tie.Need-no-turns-requires Inv-loop μ-loop
-no-turns-requires c κs = search needs
-
 loop-holds : tie.Need-loop-holds Inv-loop μ-loop
 loop-holds c = (omega arith, rw (c .no-turns .ensures), rw (c .no-turns .ensures), refl, c .before .pre .2)
-
-mul-h : tie.Need-mul-h Inv-loop μ-loop
-mul-h c = search needs
-
-element-copy-out-h : tie.Need-element-copy-out-h Inv-loop μ-loop
-element-copy-out-h c = search needs
 
 heater-at-requires : tie.Need-heater-at-requires Inv-loop μ-loop
 heater-at-requires c κs = omega (arith, c .before .before .before .before .pre .1 .below (c .before .before .loop .k) (c .before .loop-test .taken))
@@ -63,9 +54,6 @@ returns c =
 add-k : tie.Need-add-k Inv-loop μ-loop
 add-k c = let p = c .before .before .before .before .before .before .before .before .before .before .before .before .before .before .before .before .before .pre .0 .few-heaters in search needs
 
-loop-less : tie.Need-loop-less Inv-loop μ-loop
-loop-less c = search needs
-
 loop-again : tie.Need-loop-again Inv-loop μ-loop
 loop-again c =
     let l = c .before .before .before .before .before .before .before .before .before .before .before .before .before .before .before .loop in
@@ -88,15 +76,15 @@ heat-in-order-spec =
     (tie.spec
     Inv-loop
     μ-loop
-    no-turns-requires
+    (λ c κs. search needs)
     loop-holds
-    mul-h
-    element-copy-out-h
+    (λ c. search needs)
+    (λ c. search needs)
     heater-at-requires
     points-at-requires
     heat-turn-requires
     returns
     add-k
-    loop-less
+    (λ c. search needs)
     loop-again
     returns-2)

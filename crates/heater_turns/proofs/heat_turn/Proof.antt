@@ -15,9 +15,6 @@ use Rattle.heater_turns.proofs.heat_turn.Tie as tie
 below : (n : ℕ) (x : Heater) (i : Immersion) → i ≡ immersion n x → 1 ≤ n → n ≤ maxLayers → (i .layer < n) × (i .thermostat < n)
 below n x i e l m = rw e (layer-below n (omega arith) (omega arith) _, layer-below n (omega arith) (omega arith) _)
 
-immersion-of-requires : tie.Need-immersion-of-requires
-immersion-of-requires c κs = search needs
-
 turn-requires : tie.Need-turn-requires
 turn-requires c κs = let b = below (c .before .before .before .before .before .args .c .layers) (c .before .before .before .before .before .args .x) (c .before .before .before .before .immersion-of .result) (c .before .before .before .before .immersion-of .ensures) (c .before .before .before .before .before .pre .0) (c .before .before .before .before .before .pre .1) in (b .0, b .1, omega arith)
 
@@ -27,41 +24,14 @@ mul-course c = omega (arith, below (c .before .args .c .layers) (c .before .args
 element-copy-out-course : tie.Need-element-copy-out-course
 element-copy-out-course c = omega (arith, below (c .before .args .c .layers) (c .before .args .x) (c .immersion-of .result) (c .immersion-of .ensures) (c .before .pre .0) (c .before .pre .1))
 
-mul-course-2 : tie.Need-mul-course-2
-mul-course-2 c = search needs
-
-element-write-course : tie.Need-element-write-course
-element-write-course c = search needs
-
-element-copy-out-turn : tie.Need-element-copy-out-turn
-element-copy-out-turn c = search needs
-
 mul-course-3 : tie.Need-mul-course-3
 mul-course-3 c = omega (arith, below (c .before .before .before .before .before .before .args .c .layers) (c .before .before .before .before .before .before .args .x) (c .before .before .before .before .before .immersion-of .result) (c .before .before .before .before .before .immersion-of .ensures) (c .before .before .before .before .before .before .pre .0) (c .before .before .before .before .before .before .pre .1))
 
 element-copy-out-course-2 : tie.Need-element-copy-out-course-2
 element-copy-out-course-2 c = omega (arith, below (c .before .before .before .before .before .before .args .c .layers) (c .before .before .before .before .before .before .args .x) (c .before .before .before .before .before .immersion-of .result) (c .before .before .before .before .before .immersion-of .ensures) (c .before .before .before .before .before .before .pre .0) (c .before .before .before .before .before .before .pre .1))
 
-add-course : tie.Need-add-course
-add-course c = search needs
-
-mul-course-4 : tie.Need-mul-course-4
-mul-course-4 c = search needs
-
-element-write-course-2 : tie.Need-element-write-course-2
-element-write-course-2 c = search needs
-
-element-write-ran : tie.Need-element-write-ran
-element-write-ran c = search needs
-
-element-write-on : tie.Need-element-write-on
-element-write-on c = search needs
-
 write-line-requires : tie.Need-write-line-requires
 write-line-requires c κs = (search needs, search needs)
-
-add-t19 : tie.Need-add-t19
-add-t19 c = search needs
 
 returns : tie.Need-returns
 returns c =
@@ -72,20 +42,20 @@ pub heat-turn-spec : {M : Type 1} → statement M
 heat-turn-spec =
     tie.close
     (tie.spec
-    immersion-of-requires
+    (λ c κs. search needs)
     mul-course
     element-copy-out-course
-    mul-course-2
-    element-write-course
-    element-copy-out-turn
+    (λ c. search needs)
+    (λ c. search needs)
+    (λ c. search needs)
     turn-requires
     mul-course-3
     element-copy-out-course-2
-    add-course
-    mul-course-4
-    element-write-course-2
-    element-write-ran
-    element-write-on
+    (λ c. search needs)
+    (λ c. search needs)
+    (λ c. search needs)
+    (λ c. search needs)
+    (λ c. search needs)
     write-line-requires
-    add-t19
+    (λ c. search needs)
     returns)

@@ -10,9 +10,6 @@ use borrow.Author.Needs.{needs}
 use Rattle.heater_turns.proofs.heat_turns.Statement.{statement}
 use Rattle.heater_turns.proofs.heat_turns.Tie as tie
 
-working-order-requires : tie.Need-working-order-requires
-working-order-requires c κs = search needs
-
 heat-in-order-requires : tie.Need-heat-in-order-requires
 heat-in-order-requires c κs = (c .before .before .before .before .before .before .before .before .before .before .pre .0, record { places = search needs; below = λ k l. entry _ _ _ (c .before .before .before .before .before .before .before .before .before .working-order .ensures) k l }, c .before .before .before .before .before .before .before .before .before .before .pre .1)
 
@@ -27,4 +24,4 @@ returns c =
 pub heat-turns-spec : {M : Type 1} → statement M
 heat-turns-spec =
     tie.close
-    (tie.spec working-order-requires heat-in-order-requires returns)
+    (tie.spec (λ c κs. search needs) heat-in-order-requires returns)

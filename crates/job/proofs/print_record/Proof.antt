@@ -5,26 +5,8 @@ use borrow.Author.Needs.{needs}
 use Rattle.job.proofs.print_record.Statement.{statement}
 use Rattle.job.proofs.print_record.Tie as tie
 
-buffer-requires : tie.Need-buffer-requires
-buffer-requires c κs = search needs
-
-slice-aggregate-next-record : tie.Need-slice-aggregate-next-record
-slice-aggregate-next-record c = search needs
-
-next-record-requires : tie.Need-next-record-requires
-next-record-requires c κs = search needs
-
-slice-aggregate-send : tie.Need-slice-aggregate-send
-slice-aggregate-send c = search needs
-
-array-share-prefix-lines : tie.Need-array-share-prefix-lines
-array-share-prefix-lines c = search needs
-
 slice-aggregate-send-2 : tie.Need-slice-aggregate-send-2
 slice-aggregate-send-2 c = sym (length-take-le _ _ (search needs))
-
-send-requires : tie.Need-send-requires
-send-requires c κs = search needs
 
 returns : tie.Need-returns
 returns c =
@@ -37,11 +19,11 @@ pub print-record-spec : {M : Type 1} → statement M
 print-record-spec =
     tie.close
     (tie.spec
-    buffer-requires
-    slice-aggregate-next-record
-    next-record-requires
-    slice-aggregate-send
-    array-share-prefix-lines
+    (λ c κs. search needs)
+    (λ c. search needs)
+    (λ c κs. search needs)
+    (λ c. search needs)
+    (λ c. search needs)
     slice-aggregate-send-2
-    send-requires
+    (λ c κs. search needs)
     returns)

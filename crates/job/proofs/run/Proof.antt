@@ -16,9 +16,6 @@ Inv-loop bytes job₀ taken₀ job taken = Handing (recordRun bytes) (length byt
 abbrev μ-loop : tie.MeasureT-loop
 μ-loop bytes job₀ taken₀ job taken = recordsLeft (length bytes) (job .ended) (job .at)
 
-start-requires : tie.Need-start-requires Inv-loop μ-loop
-start-requires c κs = search needs
-
 loop-holds : tie.Need-loop-holds Inv-loop μ-loop
 loop-holds c = rw (c .start .ensures) (handing-start (recordRun (c .before .before .args .bytes .now)) (length (c .before .before .args .bytes .now)))
 
@@ -72,7 +69,7 @@ run-spec =
     (tie.spec
     Inv-loop
     μ-loop
-    start-requires
+    (λ c κs. search needs)
     loop-holds
     print-record-requires
     add-taken

@@ -4,9 +4,6 @@ use borrow.Author.Needs.{needs}
 use Rattle.layer_filling.proofs.does_enter_warmer.Statement.{statement}
 use Rattle.layer_filling.proofs.does_enter_warmer.Tie as tie
 
-cold-temp-requires : tie.Need-cold-temp-requires
-cold-temp-requires c κs = search needs
-
 returns : tie.Need-returns
 unfolding entersWarmer
 returns c = λ held. rw (c .before .before .if1 .taken, c .before .cold-temp .ensures)
@@ -16,4 +13,4 @@ unfolding entersWarmer
 returns-2 c = λ held. rw (c .if1 .left)
 
 pub does-enter-warmer-spec : {M : Type 1} → statement M
-does-enter-warmer-spec = tie.close (tie.spec cold-temp-requires returns returns-2)
+does-enter-warmer-spec = tie.close (tie.spec (λ c κs. search needs) returns returns-2)

@@ -4,15 +4,6 @@ use borrow.Author.Needs.{needs}
 use Rattle.layer_filling.proofs.take_from.Statement.{statement}
 use Rattle.layer_filling.proofs.take_from.Tie as tie
 
-mul-if1 : tie.Need-mul-if1
-mul-if1 c = search needs
-
-element-copy-out-if1 : tie.Need-element-copy-out-if1
-element-copy-out-if1 c = search needs
-
-take-share-requires : tie.Need-take-share-requires
-take-share-requires c κs = search needs
-
 returns : tie.Need-returns
 unfolding takeFrom
 returns c = rw (c .before .before .if1 .taken) (c .take-share .ensures)
@@ -23,4 +14,4 @@ returns-2 c = rw (c .if1 .left)
 
 pub take-from-spec : {M : Type 1} → statement M
 take-from-spec =
-    tie.close (tie.spec mul-if1 element-copy-out-if1 take-share-requires returns returns-2)
+    tie.close (tie.spec (λ c. search needs) (λ c. search needs) (λ c κs. search needs) returns returns-2)

@@ -4,9 +4,6 @@ use borrow.Author.Needs.{needs}
 use Rattle.layer_filling.proofs.take_from_feed.Statement.{statement}
 use Rattle.layer_filling.proofs.take_from_feed.Tie as tie
 
-cold-temp-requires : tie.Need-cold-temp-requires
-cold-temp-requires c κs = search needs
-
 returns : tie.Need-returns
 unfolding fromFeed
 returns c =
@@ -18,4 +15,4 @@ unfolding fromFeed
 returns-2 c = λ held. rw (c .if1 .left)
 
 pub take-from-feed-spec : {M : Type 1} → statement M
-take-from-feed-spec = tie.close (tie.spec cold-temp-requires returns returns-2)
+take-from-feed-spec = tie.close (tie.spec (λ c κs. search needs) returns returns-2)

@@ -3,21 +3,6 @@ use borrow.Author.Needs.{needs}
 use Rattle.layer_joining.proofs.join.Statement.{statement}
 use Rattle.layer_joining.proofs.join.Tie as tie
 
-add-smaller-requires : tie.Need-add-smaller-requires
-add-smaller-requires c κs = search needs
-
-add-term-requires : tie.Need-add-term-requires
-add-term-requires c κs = search needs
-
-sub-guess-total : tie.Need-sub-guess-total
-sub-guess-total c = search needs
-
-guess-total-requires : tie.Need-guess-total-requires
-guess-total-requires c κs = search needs
-
-is-total-requires : tie.Need-is-total-requires
-is-total-requires c κs = search needs
-
 join-even-plain-requires : tie.Need-join-even-plain-requires
 join-even-plain-requires c κs =
     let test = c .before .before .before .before .before .before in
@@ -49,4 +34,4 @@ returns-3 : tie.Need-returns-3
 returns-3 c = c .join-any .ensures
 
 pub join-spec : {M : Type 1} → statement M
-join-spec = tie.close (tie.spec add-smaller-requires add-term-requires sub-guess-total guess-total-requires is-total-requires join-even-plain-requires returns join-even-requires returns-2 join-any-requires returns-3)
+join-spec = tie.close (tie.spec (λ c κs. search needs) (λ c κs. search needs) (λ c. search needs) (λ c κs. search needs) (λ c κs. search needs) join-even-plain-requires returns join-even-requires returns-2 join-any-requires returns-3)

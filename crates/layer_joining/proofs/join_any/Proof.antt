@@ -88,39 +88,12 @@ module _ (c : tie.After-total-of2) where
       rw (e .0) (d .each-fits, λ m. each-more n vol first i temps r (pre .0) b d v (pre .2) v-fits (e .1))
   each-is each (inr e) n first temps b d = rw e (div-fits binary64 zero-f zero-f, λ m. absurd (differ-nan m))
 
-add-term-requires : tie.Need-add-term-requires
-add-term-requires c κs = search needs
-
-total-of-requires : tie.Need-total-of-requires
-total-of-requires c κs = search needs
-
-total-of-requires-2 : tie.Need-total-of-requires-2
-total-of-requires-2 c κs = search needs
-
-each-with-requires : tie.Need-each-with-requires
-each-with-requires c κs = search needs
-
-add-known-requires : tie.Need-add-known-requires
-add-known-requires c κs = search needs
-
-joined-requires : tie.Need-joined-requires
-joined-requires c κs = search needs
-
 returns : tie.Need-returns
 returns c =
     let test = c .before .before .before in
     let each = test .before .before in
     let w = each .before .before .before in
     follows w (c .joined .result) (c .before .add-known .result) (each .each-with .result) (c .joined .ensures) (level w (c .before .add-known .result) (c .before .add-known .ensures) (test .if1 .taken)) (each-is w (each .each-with .result) (each .each-with .ensures))
-
-add-heat-at : tie.Need-add-heat-at
-add-heat-at c = search needs
-
-heat-at-requires : tie.Need-heat-at-requires
-heat-at-requires c κs = search needs
-
-joined-requires-2 : tie.Need-joined-requires-2
-joined-requires-2 c κs = search needs
 
 returns-2 : tie.Need-returns-2
 returns-2 c =
@@ -132,14 +105,14 @@ pub join-any-spec : {M : Type 1} → statement M
 join-any-spec =
     tie.close
     (tie.spec
-    add-term-requires
-    total-of-requires
-    total-of-requires-2
-    each-with-requires
-    add-known-requires
-    joined-requires
+    (λ c κs. search needs)
+    (λ c κs. search needs)
+    (λ c κs. search needs)
+    (λ c κs. search needs)
+    (λ c κs. search needs)
+    (λ c κs. search needs)
     returns
-    add-heat-at
-    heat-at-requires
-    joined-requires-2
+    (λ c. search needs)
+    (λ c κs. search needs)
+    (λ c κs. search needs)
     returns-2)

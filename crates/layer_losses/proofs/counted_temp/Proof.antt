@@ -4,15 +4,6 @@ use borrow.Author.Needs.{needs}
 use Rattle.layer_losses.proofs.counted_temp.Statement.{statement}
 use Rattle.layer_losses.proofs.counted_temp.Tie as tie
 
-has-upper-requires : tie.Need-has-upper-requires
-has-upper-requires c κs = search needs
-
-upper-of-requires : tie.Need-upper-of-requires
-upper-of-requires c κs = search needs
-
-min-of-2-requires : tie.Need-min-of-2-requires
-min-of-2-requires c κs = search needs
-
 returns : tie.Need-returns
 unfolding countedTemp
 returns c =
@@ -31,4 +22,4 @@ returns-3 c = rw (← c .before .has-upper .ensures, c .if1 .left)
 pub counted-temp-spec : {M : Type 1} → statement M
 counted-temp-spec =
     tie.close
-    (tie.spec has-upper-requires upper-of-requires min-of-2-requires returns returns-2 returns-3)
+    (tie.spec (λ c κs. search needs) (λ c κs. search needs) (λ c κs. search needs) returns returns-2 returns-3)

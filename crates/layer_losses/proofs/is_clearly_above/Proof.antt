@@ -6,9 +6,6 @@ use borrow.Author.Needs.{needs}
 use Rattle.layer_losses.proofs.is_clearly_above.Statement.{statement}
 use Rattle.layer_losses.proofs.is_clearly_above.Tie as tie
 
-is-close-above-requires : tie.Need-is-close-above-requires
-is-close-above-requires c κs = search needs
-
 returns : tie.Need-returns
 unfolding clearlyAbove wideClose
 returns c = rw (c .before .if1 .taken, c .is-close-above .ensures wide-finite (c .before .if1 .taken))
@@ -18,4 +15,4 @@ unfolding clearlyAbove
 returns-2 c = rw (c .if1 .left)
 
 pub is-clearly-above-spec : {M : Type 1} → statement M
-is-clearly-above-spec = tie.close (tie.spec is-close-above-requires returns returns-2)
+is-clearly-above-spec = tie.close (tie.spec (λ c κs. search needs) returns returns-2)

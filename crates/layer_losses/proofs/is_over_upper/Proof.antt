@@ -4,15 +4,6 @@ use borrow.Author.Needs.{needs}
 use Rattle.layer_losses.proofs.is_over_upper.Statement.{statement}
 use Rattle.layer_losses.proofs.is_over_upper.Tie as tie
 
-has-upper-requires : tie.Need-has-upper-requires
-has-upper-requires c κs = search needs
-
-upper-of-requires : tie.Need-upper-of-requires
-upper-of-requires c κs = search needs
-
-is-clearly-above-requires : tie.Need-is-clearly-above-requires
-is-clearly-above-requires c κs = search needs
-
 returns : tie.Need-returns
 unfolding overUpper
 returns c = rw (← c .before .before .before .has-upper .ensures, c .before .before .if1 .taken, c .is-clearly-above .ensures, c .before .upper-of .ensures)
@@ -24,4 +15,4 @@ returns-2 c = rw (← c .before .has-upper .ensures, c .if1 .left)
 pub is-over-upper-spec : {M : Type 1} → statement M
 is-over-upper-spec =
     tie.close
-    (tie.spec has-upper-requires upper-of-requires is-clearly-above-requires returns returns-2)
+    (tie.spec (λ c κs. search needs) (λ c κs. search needs) (λ c κs. search needs) returns returns-2)

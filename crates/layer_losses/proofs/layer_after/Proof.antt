@@ -3,17 +3,8 @@ use borrow.Author.Needs.{needs}
 use Rattle.layer_losses.proofs.layer_after.Statement.{statement}
 use Rattle.layer_losses.proofs.layer_after.Tie as tie
 
-is-clearly-above-requires : tie.Need-is-clearly-above-requires
-is-clearly-above-requires c κs = search needs
-
-after-loss-requires : tie.Need-after-loss-requires
-after-loss-requires c κs = search needs
-
 returns : tie.Need-returns
 returns c = rw (← c .before .before .is-clearly-above .ensures, c .before .if1 .taken) (c .after-loss .ensures)
-
-after-loss-requires-2 : tie.Need-after-loss-requires-2
-after-loss-requires-2 c κs = search needs
 
 returns-2 : tie.Need-returns-2
 returns-2 c = rw (← c .before .before .is-clearly-above .ensures, c .before .if1 .left) (c .after-loss2 .ensures)
@@ -22,8 +13,8 @@ pub layer-after-spec : {M : Type 1} → statement M
 layer-after-spec =
     tie.close
     (tie.spec
-    is-clearly-above-requires
-    after-loss-requires
+    (λ c κs. search needs)
+    (λ c κs. search needs)
     returns
-    after-loss-requires-2
+    (λ c κs. search needs)
     returns-2)

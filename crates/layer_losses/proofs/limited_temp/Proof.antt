@@ -4,12 +4,6 @@ use borrow.Author.Needs.{needs}
 use Rattle.layer_losses.proofs.limited_temp.Statement.{statement}
 use Rattle.layer_losses.proofs.limited_temp.Tie as tie
 
-is-over-upper-requires : tie.Need-is-over-upper-requires
-is-over-upper-requires c κs = search needs
-
-upper-of-requires : tie.Need-upper-of-requires
-upper-of-requires c κs = search needs
-
 returns : tie.Need-returns
 unfolding limitedTemp
 returns c = rw (c .before .before .before .if1 .taken, ← c .before .before .is-over-upper .ensures, c .before .if2 .taken, c .upper-of .ensures)
@@ -24,4 +18,4 @@ returns-3 c = rw (c .if1 .left)
 
 pub limited-temp-spec : {M : Type 1} → statement M
 limited-temp-spec =
-    tie.close (tie.spec is-over-upper-requires upper-of-requires returns returns-2 returns-3)
+    tie.close (tie.spec (λ c κs. search needs) (λ c κs. search needs) returns returns-2 returns-3)

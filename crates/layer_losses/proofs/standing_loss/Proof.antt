@@ -4,12 +4,9 @@ use borrow.Author.Needs.{needs}
 use Rattle.layer_losses.proofs.standing_loss.Statement.{statement}
 use Rattle.layer_losses.proofs.standing_loss.Tie as tie
 
-stand-by-losses-coefficient-requires : tie.Need-stand-by-losses-coefficient-requires
-stand-by-losses-coefficient-requires c κs = search needs
-
 returns : tie.Need-returns
 unfolding standingLoss
 returns c = rw (c .before .before .before .before .before .stand-by-losses-coefficient .ensures)
 
 pub standing-loss-spec : {M : Type 1} → statement M
-standing-loss-spec = tie.close (tie.spec stand-by-losses-coefficient-requires returns)
+standing-loss-spec = tie.close (tie.spec (λ c κs. search needs) returns)

@@ -18,26 +18,14 @@ Inv-loop n vol temps₀ initial limit k₀ temps k = (k ≤ limit) × (initial �
 abbrev μ-loop : tie.MeasureT-loop
 μ-loop n vol temps₀ initial limit k₀ temps k = limit - k
 
-max-rounds-requires : tie.Need-max-rounds-requires Inv-loop μ-loop
-max-rounds-requires c κs = search needs
-
 loop-holds : tie.Need-loop-holds Inv-loop μ-loop
 unfolding rearrange
 loop-holds c = (omega arith, refl, rw (sub-zero, c .max-rounds .ensures))
-
-try-round-requires : tie.Need-try-round-requires Inv-loop μ-loop
-try-round-requires c κs = search needs
-
-rearrange-plain-requires : tie.Need-rearrange-plain-requires Inv-loop μ-loop
-rearrange-plain-requires c κs = search needs
 
 returns : tie.Need-returns Inv-loop μ-loop
 returns c =
     let same = c .before .before .before .before .before .before .before .before .loop .inv .1 in
     rw same at (c .rearrange-plain .ensures)
-
-add-k : tie.Need-add-k Inv-loop μ-loop
-add-k c = search needs
 
 returns-2 : tie.Need-returns-2 Inv-loop μ-loop
 returns-2 c =
@@ -47,9 +35,6 @@ returns-2 c =
     let round = ran .try-round .ensures (not-false _ (c .before .if1 .left)) in
     let e = at .inv .2 ∙ (rounds-next _ (at .k) _ _ _ _ true (test .loop-test .taken) (round .0) (sym (round .1) ∙ c .if2 .taken) ∙ rounds-sorted _ _ _ _ _) in
     (sym (ap answerOf e), sym (ap (tempsOf _) e))
-
-loop-less : tie.Need-loop-less Inv-loop μ-loop
-loop-less c = search needs
 
 loop-again : tie.Need-loop-again Inv-loop μ-loop
 loop-again c =
@@ -71,13 +56,13 @@ rearrange-temperatures-spec =
     (tie.spec
     Inv-loop
     μ-loop
-    max-rounds-requires
+    (λ c κs. search needs)
     loop-holds
-    try-round-requires
-    rearrange-plain-requires
+    (λ c κs. search needs)
+    (λ c κs. search needs)
     returns
-    add-k
+    (λ c. search needs)
     returns-2
-    loop-less
+    (λ c. search needs)
     loop-again
     returns-3)

@@ -6,9 +6,6 @@ use borrow.Author.Needs.{needs}
 use Rattle.repeating_layers.proofs.does_repeat.Statement.{statement}
 use Rattle.repeating_layers.proofs.does_repeat.Tie as tie
 
-is-no-volume-requires : tie.Need-is-no-volume-requires
-is-no-volume-requires c κs = search needs
-
 returns : tie.Need-returns
 returns c = λ e. absurd (true≢false (sym e))
 
@@ -20,9 +17,6 @@ returns-3 c = λ e. absurd (true≢false (sym e))
 
 returns-4 : tie.Need-returns-4
 returns-4 c = λ e. absurd (true≢false (sym e))
-
-is-same-requires : tie.Need-is-same-requires
-is-same-requires c κs = search needs
 
 returns-5 : tie.Need-returns-5
 returns-5 c =
@@ -38,10 +32,10 @@ pub does-repeat-spec : {M : Type 1} → statement M
 does-repeat-spec =
     tie.close
     (tie.spec
-    is-no-volume-requires
+    (λ c κs. search needs)
     returns
     returns-2
     returns-3
     returns-4
-    is-same-requires
+    (λ c κs. search needs)
     returns-5)

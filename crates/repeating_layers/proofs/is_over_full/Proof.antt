@@ -13,32 +13,8 @@ returns c = λ e. absurd (true≢false (sym e))
 returns-2 : tie.Need-returns-2
 returns-2 c = λ e. absurd (true≢false (sym e))
 
-sub-is-same : tie.Need-sub-is-same
-sub-is-same c = search needs
-
-mul-is-same : tie.Need-mul-is-same
-mul-is-same c = search needs
-
-element-copy-out-is-same : tie.Need-element-copy-out-is-same
-element-copy-out-is-same c = search needs
-
-is-same-requires : tie.Need-is-same-requires
-is-same-requires c κs = search needs
-
 returns-3 : tie.Need-returns-3
 returns-3 c = λ e. absurd (true≢false (sym e))
-
-sub-is-same-2 : tie.Need-sub-is-same-2
-sub-is-same-2 c = search needs
-
-mul-is-same-2 : tie.Need-mul-is-same-2
-mul-is-same-2 c = search needs
-
-element-copy-out-is-same-2 : tie.Need-element-copy-out-is-same-2
-element-copy-out-is-same-2 c = search needs
-
-is-same-requires-2 : tie.Need-is-same-requires-2
-is-same-requires-2 c κs = search needs
 
 returns-4 : tie.Need-returns-4
 returns-4 c =
@@ -53,13 +29,13 @@ is-over-full-spec =
     (tie.spec
     returns
     returns-2
-    sub-is-same
-    mul-is-same
-    element-copy-out-is-same
-    is-same-requires
+    (λ c. search needs)
+    (λ c. search needs)
+    (λ c. search needs)
+    (λ c κs. search needs)
     returns-3
-    sub-is-same-2
-    mul-is-same-2
-    element-copy-out-is-same-2
-    is-same-requires-2
+    (λ c. search needs)
+    (λ c. search needs)
+    (λ c. search needs)
+    (λ c κs. search needs)
     returns-4)

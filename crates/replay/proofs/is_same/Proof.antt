@@ -18,17 +18,8 @@ Inv-loop bytes stored job₀ at₀ job at = Comparing bytes stored job at
 abbrev μ-loop : tie.MeasureT-loop
 μ-loop bytes stored job₀ at₀ job at = recordsLeft (length bytes) (job .ended) (job .at)
 
-start-requires : tie.Need-start-requires Inv-loop μ-loop
-start-requires c κs = search needs
-
 loop-holds : tie.Need-loop-holds Inv-loop μ-loop
 loop-holds c = rw (c .start .ensures) (comparing-start (c .before .before .before .args .bytes .now) (c .before .before .before .args .stored .now))
-
-buffer-requires : tie.Need-buffer-requires Inv-loop μ-loop
-buffer-requires c κs = search needs
-
-slice-aggregate-next-record : tie.Need-slice-aggregate-next-record Inv-loop μ-loop
-slice-aggregate-next-record c = search needs
 
 next-record-requires : tie.Need-next-record-requires Inv-loop μ-loop
 next-record-requires c κs =
@@ -37,9 +28,6 @@ next-record-requires c κs =
     let placed = w .placed in
     let first = c .before .before .before .before .loop .inv .first in
     omega (arith, c .before .before .before .before .before .before .before .before .pre)
-
-array-share-prefix-lines : tie.Need-array-share-prefix-lines Inv-loop μ-loop
-array-share-prefix-lines c = search needs
 
 slice-aggregate-begins-with : tie.Need-slice-aggregate-begins-with Inv-loop μ-loop
 slice-aggregate-begins-with c = sym (length-take-le _ _ (search needs))
@@ -85,12 +73,12 @@ is-same-spec =
     (tie.spec
     Inv-loop
     μ-loop
-    start-requires
+    (λ c κs. search needs)
     loop-holds
-    buffer-requires
-    slice-aggregate-next-record
+    (λ c κs. search needs)
+    (λ c. search needs)
     next-record-requires
-    array-share-prefix-lines
+    (λ c. search needs)
     slice-aggregate-begins-with
     begins-with-requires
     returns

@@ -15,9 +15,6 @@ Inv-loop b m four five a₀ k₀ a k = (k ≤ m) × Equals b k a
 abbrev μ-loop : tie.MeasureT-loop
 μ-loop b m four five a₀ k₀ a k = m - k
 
-few-equal-terms-requires : tie.Need-few-equal-terms-requires Inv-loop μ-loop
-few-equal-terms-requires c κs = search needs
-
 returns : tie.Need-returns Inv-loop μ-loop
 returns c = c .few-equal-terms .ensures
 
@@ -32,15 +29,6 @@ loop-holds c =
     let start = c .before .before in
     (omega arith, five-equals (start .args .b) (passes _ (start .good .0 .1)))
 
-add-smaller-requires : tie.Need-add-smaller-requires Inv-loop μ-loop
-add-smaller-requires c κs = search needs
-
-add-k : tie.Need-add-k Inv-loop μ-loop
-add-k c = search needs
-
-loop-less : tie.Need-loop-less Inv-loop μ-loop
-loop-less c = search needs
-
 loop-again : tie.Need-loop-again Inv-loop μ-loop
 loop-again c =
     let at = c .before .before .loop in
@@ -54,4 +42,4 @@ returns-3 c = λ h f i.
     rw (← all) (at .inv .1 .1 h (passes _ f) .1 i)
 
 pub equal-terms-spec : {M : Type 1} → statement M
-equal-terms-spec = tie.close (tie.spec Inv-loop μ-loop few-equal-terms-requires returns returns-2 loop-holds add-smaller-requires add-k loop-less loop-again returns-3)
+equal-terms-spec = tie.close (tie.spec Inv-loop μ-loop (λ c κs. search needs) returns returns-2 loop-holds (λ c κs. search needs) (λ c. search needs) (λ c. search needs) loop-again returns-3)

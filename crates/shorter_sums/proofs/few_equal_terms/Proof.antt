@@ -17,15 +17,6 @@ abbrev μ-loop : tie.MeasureT-loop
 loop-holds : tie.Need-loop-holds Inv-loop μ-loop
 loop-holds c = (c .pre, equals-one (c .args .b) (passes _ (c .good .0 .1)))
 
-add-smaller-requires : tie.Need-add-smaller-requires Inv-loop μ-loop
-add-smaller-requires c κs = search needs
-
-add-k : tie.Need-add-k Inv-loop μ-loop
-add-k c = search needs
-
-loop-less : tie.Need-loop-less Inv-loop μ-loop
-loop-less c = search needs
-
 loop-again : tie.Need-loop-again Inv-loop μ-loop
 loop-again c =
     let at = c .before .before .loop in
@@ -39,4 +30,4 @@ returns c = λ h f i.
     rw (← all) (at .inv .1 .1 h (passes _ f) .1 i)
 
 pub few-equal-terms-spec : {M : Type 1} → statement M
-few-equal-terms-spec = tie.close (tie.spec Inv-loop μ-loop loop-holds add-smaller-requires add-k loop-less loop-again returns)
+few-equal-terms-spec = tie.close (tie.spec Inv-loop μ-loop loop-holds (λ c κs. search needs) (λ c. search needs) (λ c. search needs) loop-again returns)

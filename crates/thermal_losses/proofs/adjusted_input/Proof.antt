@@ -4,12 +4,6 @@ use borrow.Author.Needs.{needs}
 use Rattle.thermal_losses.proofs.adjusted_input.Statement.{statement}
 use Rattle.thermal_losses.proofs.adjusted_input.Tie as tie
 
-min-of-2-requires : tie.Need-min-of-2-requires
-min-of-2-requires c κs = search needs
-
-max-of-2-requires : tie.Need-max-of-2-requires
-max-of-2-requires c κs = search needs
-
 returns : tie.Need-returns
 unfolding adjusted
 returns c = rw (c .before .before .if1 .taken, c .max-of-2 .ensures, c .before .min-of-2 .ensures)
@@ -19,4 +13,4 @@ unfolding adjusted
 returns-2 c = rw (c .if1 .left)
 
 pub adjusted-input-spec : {M : Type 1} → statement M
-adjusted-input-spec = tie.close (tie.spec min-of-2-requires max-of-2-requires returns returns-2)
+adjusted-input-spec = tie.close (tie.spec (λ c κs. search needs) (λ c κs. search needs) returns returns-2)

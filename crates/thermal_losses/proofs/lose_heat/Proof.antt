@@ -26,65 +26,8 @@ Inv-loop c vol p before temps₀ charged₀ n a₀ k₀ temps charged a k =
 abbrev μ-loop : tie.MeasureT-loop
 μ-loop c vol p before temps₀ charged₀ n a₀ k₀ temps charged a k = n - k
 
-start-requires : tie.Need-start-requires Inv-loop μ-loop
-start-requires c κs = search needs
-
 loop-holds : tie.Need-loop-holds Inv-loop μ-loop
 loop-holds c = (updating-start _ _ _, updating-start _ _ _, rest-start _ _ _)
-
-mul-layer-after : tie.Need-mul-layer-after Inv-loop μ-loop
-mul-layer-after c = search needs
-
-element-copy-out-layer-after : tie.Need-element-copy-out-layer-after Inv-loop μ-loop
-element-copy-out-layer-after c = search needs
-
-mul-layer-after-2 : tie.Need-mul-layer-after-2 Inv-loop μ-loop
-mul-layer-after-2 c = search needs
-
-element-copy-out-layer-after-2 : tie.Need-element-copy-out-layer-after-2 Inv-loop μ-loop
-element-copy-out-layer-after-2 c = search needs
-
-mul-layer-after-3 : tie.Need-mul-layer-after-3 Inv-loop μ-loop
-mul-layer-after-3 c = search needs
-
-element-copy-out-layer-after-3 : tie.Need-element-copy-out-layer-after-3 Inv-loop μ-loop
-element-copy-out-layer-after-3 c = search needs
-
-mul-layer-after-4 : tie.Need-mul-layer-after-4 Inv-loop μ-loop
-mul-layer-after-4 c = search needs
-
-element-copy-out-layer-after-4 : tie.Need-element-copy-out-layer-after-4 Inv-loop μ-loop
-element-copy-out-layer-after-4 c = search needs
-
-layer-after-requires : tie.Need-layer-after-requires Inv-loop μ-loop
-layer-after-requires c κs = search needs
-
-add-term-requires : tie.Need-add-term-requires Inv-loop μ-loop
-add-term-requires c κs = search needs
-
-mul-temps : tie.Need-mul-temps Inv-loop μ-loop
-mul-temps c = search needs
-
-element-write-temps : tie.Need-element-write-temps Inv-loop μ-loop
-element-write-temps c = search needs
-
-mul-charged : tie.Need-mul-charged Inv-loop μ-loop
-mul-charged c = search needs
-
-element-copy-out-charged : tie.Need-element-copy-out-charged Inv-loop μ-loop
-element-copy-out-charged c = search needs
-
-mul-charged-2 : tie.Need-mul-charged-2 Inv-loop μ-loop
-mul-charged-2 c = search needs
-
-element-write-charged : tie.Need-element-write-charged Inv-loop μ-loop
-element-write-charged c = search needs
-
-add-k : tie.Need-add-k Inv-loop μ-loop
-add-k c = search needs
-
-loop-less : tie.Need-loop-less Inv-loop μ-loop
-loop-less c = search needs
 
 loop-again : tie.Need-loop-again Inv-loop μ-loop
 loop-again c =
@@ -101,9 +44,6 @@ loop-again c =
       updating-next _ _ _ _ _ _ l (at .inv .1) (charged-local _ _ _ _ _ _ _ _ _ t q _ lost),
       rw (added .add-term .ensures, lost) (rest-next _ _ _ _ _ l (at .inv .2)),
     )
-
-total-of-requires : tie.Need-total-of-requires Inv-loop μ-loop
-total-of-requires c κs = search needs
 
 returns : tie.Need-returns Inv-loop μ-loop
 unfolding losses tempsAfter chargedAfter
@@ -122,26 +62,26 @@ lose-heat-spec =
     (tie.spec
     Inv-loop
     μ-loop
-    start-requires
+    (λ c κs. search needs)
     loop-holds
-    mul-layer-after
-    element-copy-out-layer-after
-    mul-layer-after-2
-    element-copy-out-layer-after-2
-    mul-layer-after-3
-    element-copy-out-layer-after-3
-    mul-layer-after-4
-    element-copy-out-layer-after-4
-    layer-after-requires
-    add-term-requires
-    mul-temps
-    element-write-temps
-    mul-charged
-    element-copy-out-charged
-    mul-charged-2
-    element-write-charged
-    add-k
-    loop-less
+    (λ c. search needs)
+    (λ c. search needs)
+    (λ c. search needs)
+    (λ c. search needs)
+    (λ c. search needs)
+    (λ c. search needs)
+    (λ c. search needs)
+    (λ c. search needs)
+    (λ c κs. search needs)
+    (λ c κs. search needs)
+    (λ c. search needs)
+    (λ c. search needs)
+    (λ c. search needs)
+    (λ c. search needs)
+    (λ c. search needs)
+    (λ c. search needs)
+    (λ c. search needs)
+    (λ c. search needs)
     loop-again
-    total-of-requires
+    (λ c κs. search needs)
     returns)

@@ -18,39 +18,6 @@ abbrev μ-loop : tie.MeasureT-loop
 loop-holds : tie.Need-loop-holds Inv-loop μ-loop
 loop-holds c = span-start _ _ _ _ (omega arith)
 
-mul-layer-surplus : tie.Need-mul-layer-surplus Inv-loop μ-loop
-mul-layer-surplus c = search needs
-
-element-copy-out-layer-surplus : tie.Need-element-copy-out-layer-surplus Inv-loop μ-loop
-element-copy-out-layer-surplus c = search needs
-
-mul-layer-surplus-2 : tie.Need-mul-layer-surplus-2 Inv-loop μ-loop
-mul-layer-surplus-2 c = search needs
-
-element-copy-out-layer-surplus-2 : tie.Need-element-copy-out-layer-surplus-2 Inv-loop μ-loop
-element-copy-out-layer-surplus-2 c = search needs
-
-mul-layer-surplus-3 : tie.Need-mul-layer-surplus-3 Inv-loop μ-loop
-mul-layer-surplus-3 c = search needs
-
-element-copy-out-layer-surplus-3 : tie.Need-element-copy-out-layer-surplus-3 Inv-loop μ-loop
-element-copy-out-layer-surplus-3 c = search needs
-
-mul-layer-surplus-4 : tie.Need-mul-layer-surplus-4 Inv-loop μ-loop
-mul-layer-surplus-4 c = search needs
-
-element-copy-out-layer-surplus-4 : tie.Need-element-copy-out-layer-surplus-4 Inv-loop μ-loop
-element-copy-out-layer-surplus-4 c = search needs
-
-layer-surplus-requires : tie.Need-layer-surplus-requires Inv-loop μ-loop
-layer-surplus-requires c κs = search needs
-
-add-k : tie.Need-add-k Inv-loop μ-loop
-add-k c = search needs
-
-loop-less : tie.Need-loop-less Inv-loop μ-loop
-loop-less c = search needs
-
 loop-again : tie.Need-loop-again Inv-loop μ-loop
 unfolding warmed lossAt
 loop-again c =
@@ -67,16 +34,16 @@ sum-surplus-spec =
     Inv-loop
     μ-loop
     loop-holds
-    mul-layer-surplus
-    element-copy-out-layer-surplus
-    mul-layer-surplus-2
-    element-copy-out-layer-surplus-2
-    mul-layer-surplus-3
-    element-copy-out-layer-surplus-3
-    mul-layer-surplus-4
-    element-copy-out-layer-surplus-4
-    layer-surplus-requires
-    add-k
-    loop-less
+    (λ c. search needs)
+    (λ c. search needs)
+    (λ c. search needs)
+    (λ c. search needs)
+    (λ c. search needs)
+    (λ c. search needs)
+    (λ c. search needs)
+    (λ c. search needs)
+    (λ c κs. search needs)
+    (λ c. search needs)
+    (λ c. search needs)
     loop-again
     returns)

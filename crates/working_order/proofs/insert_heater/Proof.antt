@@ -17,28 +17,10 @@ abbrev μ-loop : tie.MeasureT-loop
 loop-holds : tie.Need-loop-holds Inv-loop μ-loop
 loop-holds c = inserting-start _ _ _ _ (c .pre .0) (c .pre .2) (c .pre .3)
 
-add-loop : tie.Need-add-loop Inv-loop μ-loop
-add-loop c = search needs
-
-add-y : tie.Need-add-y Inv-loop μ-loop
-add-y c = search needs
-
-mul-y : tie.Need-mul-y Inv-loop μ-loop
-mul-y c = search needs
-
-element-copy-out-y : tie.Need-element-copy-out-y Inv-loop μ-loop
-element-copy-out-y c = search needs
-
 comes-before-requires : tie.Need-comes-before-requires Inv-loop μ-loop
 comes-before-requires c κs =
     let at = c .before .before .loop in
     (search needs, omega (arith, at .inv .numbers (at .j + 1) (omega arith) (omega arith)))
-
-mul-order : tie.Need-mul-order Inv-loop μ-loop
-mul-order c = search needs
-
-element-write-order : tie.Need-element-write-order Inv-loop μ-loop
-element-write-order c = search needs
 
 returns : tie.Need-returns Inv-loop μ-loop
 returns c =
@@ -46,28 +28,10 @@ returns c =
     let at = test .before .loop in
     inserting-stop _ _ _ _ _ _ (omega arith) (at .inv) (test .loop-test .taken) (sym (c .before .comes-before .ensures) ∙ c .if1 .taken)
 
-mul-order-2 : tie.Need-mul-order-2 Inv-loop μ-loop
-mul-order-2 c = search needs
-
-element-write-order-2 : tie.Need-element-write-order-2 Inv-loop μ-loop
-element-write-order-2 c = search needs
-
-add-j : tie.Need-add-j Inv-loop μ-loop
-add-j c = search needs
-
-loop-less : tie.Need-loop-less Inv-loop μ-loop
-loop-less c = search needs
-
 loop-again : tie.Need-loop-again Inv-loop μ-loop
 loop-again c =
     let test = c .before .before .before in
     inserting-next _ _ _ _ _ _ (omega arith) (test .before .loop .inv) (test .loop-test .taken) (sym (c .before .comes-before .ensures) ∙ c .if1 .left)
-
-mul-order-3 : tie.Need-mul-order-3 Inv-loop μ-loop
-mul-order-3 c = search needs
-
-element-write-order-3 : tie.Need-element-write-order-3 Inv-loop μ-loop
-element-write-order-3 c = search needs
 
 returns-2 : tie.Need-returns-2 Inv-loop μ-loop
 returns-2 c = inserting-end _ _ _ _ _ _ (omega arith) (c .before .loop .inv) (c .loop-test .left)
@@ -79,19 +43,19 @@ insert-heater-spec =
     Inv-loop
     μ-loop
     loop-holds
-    add-loop
-    add-y
-    mul-y
-    element-copy-out-y
+    (λ c. search needs)
+    (λ c. search needs)
+    (λ c. search needs)
+    (λ c. search needs)
     comes-before-requires
-    mul-order
-    element-write-order
+    (λ c. search needs)
+    (λ c. search needs)
     returns
-    mul-order-2
-    element-write-order-2
-    add-j
-    loop-less
+    (λ c. search needs)
+    (λ c. search needs)
+    (λ c. search needs)
+    (λ c. search needs)
     loop-again
-    mul-order-3
-    element-write-order-3
+    (λ c. search needs)
+    (λ c. search needs)
     returns-2)

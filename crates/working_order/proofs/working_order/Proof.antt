@@ -15,16 +15,10 @@ abbrev μ-loop : tie.MeasureT-loop
 loop-holds : tie.Need-loop-holds Inv-loop μ-loop
 loop-holds c = sorted-start _ _ (omega arith)
 
-sub-x : tie.Need-sub-x Inv-loop μ-loop
-sub-x c = search needs
-
 insert-heater-requires : tie.Need-insert-heater-requires Inv-loop μ-loop
 insert-heater-requires c κs =
     let at = c .before .before .loop in
     (omega arith, omega arith, at .inv .long, λ k h u. sorted-numbers _ _ _ _ (at .inv) k (omega arith) u)
-
-loop-less : tie.Need-loop-less Inv-loop μ-loop
-loop-less c = search needs
 
 loop-again : tie.Need-loop-again Inv-loop μ-loop
 loop-again c =
@@ -38,4 +32,4 @@ returns c = sorted-end _ _ _ _ (c .loop-test .left) (c .before .loop .inv)
 pub working-order-spec : {M : Type 1} → statement M
 working-order-spec =
     tie.close
-    (tie.spec Inv-loop μ-loop loop-holds sub-x insert-heater-requires loop-less loop-again returns)
+    (tie.spec Inv-loop μ-loop loop-holds (λ c. search needs) insert-heater-requires (λ c. search needs) loop-again returns)

@@ -7,9 +7,6 @@ use borrow.Author.Needs.{needs}
 use Rattle.draw_events.proofs.event.draw_event.Statement.{statement}
 use Rattle.draw_events.proofs.event.draw_event.Tie as tie
 
-extract-hot-water-requires : tie.Need-extract-hot-water-requires
-extract-hot-water-requires c κs = search needs
-
 keep-sum-requires : tie.Need-keep-sum-requires
 keep-sum-requires c κs =
     let start = c .before .before .before .before in
@@ -25,18 +22,6 @@ volume-used-requires c κs =
     let a = start .args in
     let sum = sum-untouched (a .c) (a .feed) (a .temps .now) (a .wanted) (a .vol .now) (a .totals .weighted) (a .totals .drawn) _ (draw .extract-hot-water .result) (kept .keep-sum .result) (draw .extract-hot-water .ensures) (kept .keep-sum .ensures) in
     (start .pre .1, sum .0, sum .1)
-
-calc-temps-after-extraction-requires : tie.Need-calc-temps-after-extraction-requires
-calc-temps-after-extraction-requires c κs = search needs
-
-mix-event-requires : tie.Need-mix-event-requires
-mix-event-requires c κs = search needs
-
-is-event-finite-requires : tie.Need-is-event-finite-requires
-is-event-finite-requires c κs = search needs
-
-number-after-requires : tie.Need-number-after-requires
-number-after-requires c κs = search needs
 
 returns : tie.Need-returns
 returns c =
@@ -63,11 +48,11 @@ pub draw-event-spec : {M : Type 1} → statement M
 draw-event-spec =
     tie.close
     (tie.spec
-    extract-hot-water-requires
+    (λ c κs. search needs)
     keep-sum-requires
     volume-used-requires
-    calc-temps-after-extraction-requires
-    mix-event-requires
-    is-event-finite-requires
-    number-after-requires
+    (λ c κs. search needs)
+    (λ c κs. search needs)
+    (λ c κs. search needs)
+    (λ c κs. search needs)
     returns)

@@ -23,20 +23,8 @@ Inv-loop c vol feed n volumes temps₀ t₀ kept₀ k₀ temps t kept k = (k ≤
 abbrev μ-loop : tie.MeasureT-loop
 μ-loop c vol feed n volumes temps₀ t₀ kept₀ k₀ temps t kept k = n - k
 
-sum-of-none-requires : tie.Need-sum-of-none-requires Inv-loop μ-loop
-sum-of-none-requires c κs = search needs
-
 loop-holds : tie.Need-loop-holds Inv-loop μ-loop
 loop-holds c = (omega arith, rw sub-zero, c .sum-of-none .ensures _)
-
-mul-draw-event : tie.Need-mul-draw-event Inv-loop μ-loop
-mul-draw-event c = search needs
-
-element-copy-out-draw-event : tie.Need-element-copy-out-draw-event Inv-loop μ-loop
-element-copy-out-draw-event c = search needs
-
-draw-event-requires : tie.Need-draw-event-requires Inv-loop μ-loop
-draw-event-requires c κs = search needs
 
 returns : tie.Need-returns Inv-loop μ-loop
 returns c =
@@ -45,12 +33,6 @@ returns c =
     let at = test .before .loop in
     let a = test .before .before .before .args in
     events-refused (a .c) (a .vol .now) (a .feed) (volumeAt (a .volumes .now)) _ _ (at .temps) _ (at .t) (event .draw-event .result .answer) _ (test .loop-test .taken) (at .inv .1) (event .draw-event .ensures .0) (c .if1 .taken)
-
-add-k : tie.Need-add-k Inv-loop μ-loop
-add-k c = search needs
-
-loop-less : tie.Need-loop-less Inv-loop μ-loop
-loop-less c = search needs
 
 loop-again : tie.Need-loop-again Inv-loop μ-loop
 loop-again c =
@@ -73,13 +55,13 @@ draw-events-spec =
     (tie.spec
     Inv-loop
     μ-loop
-    sum-of-none-requires
+    (λ c κs. search needs)
     loop-holds
-    mul-draw-event
-    element-copy-out-draw-event
-    draw-event-requires
+    (λ c. search needs)
+    (λ c. search needs)
+    (λ c κs. search needs)
     returns
-    add-k
-    loop-less
+    (λ c. search needs)
+    (λ c. search needs)
     loop-again
     returns-2)

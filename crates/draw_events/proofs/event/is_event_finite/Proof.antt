@@ -5,24 +5,15 @@ use borrow.Author.Needs.{needs}
 use Rattle.draw_events.proofs.event.is_event_finite.Statement.{statement}
 use Rattle.draw_events.proofs.event.is_event_finite.Tie as tie
 
-are-finite-requires : tie.Need-are-finite-requires
-are-finite-requires c κs = search needs
-
 returns : tie.Need-returns
 unfolding eventFinite
 returns c = rw (← c .before .are-finite .ensures, not-true (c .before .are-finite .result) (c .if1 .taken))
-
-is-finite-requires : tie.Need-is-finite-requires
-is-finite-requires c κs = search needs
 
 returns-2 : tie.Need-returns-2
 unfolding eventFinite
 returns-2 c =
     let first = c .before .before in
     rw (← first .before .are-finite .ensures, not-false (first .before .are-finite .result) (first .if1 .left), ← c .before .is-finite .ensures, not-true (c .before .is-finite .result) (c .if2 .taken))
-
-is-finite-requires-2 : tie.Need-is-finite-requires-2
-is-finite-requires-2 c κs = search needs
 
 returns-3 : tie.Need-returns-3
 unfolding eventFinite
@@ -35,9 +26,9 @@ pub is-event-finite-spec : {M : Type 1} → statement M
 is-event-finite-spec =
     tie.close
     (tie.spec
-    are-finite-requires
+    (λ c κs. search needs)
     returns
-    is-finite-requires
+    (λ c κs. search needs)
     returns-2
-    is-finite-requires-2
+    (λ c κs. search needs)
     returns-3)

@@ -7,12 +7,6 @@ use borrow.Author.Needs.{needs}
 use Rattle.draw_events.proofs.event.mix_event.Statement.{statement}
 use Rattle.draw_events.proofs.event.mix_event.Tie as tie
 
-rearrange-temperatures-requires : tie.Need-rearrange-temperatures-requires
-rearrange-temperatures-requires c κs = search needs
-
-number-of-requires : tie.Need-number-of-requires
-number-of-requires c κs = search needs
-
 returns : tie.Need-returns
 unfolding eventMixing
 returns c =
@@ -30,4 +24,4 @@ returns-2 c = rw (c .if1 .left) record { draws = refl; leaves = refl }
 
 pub mix-event-spec : {M : Type 1} → statement M
 mix-event-spec =
-    tie.close (tie.spec rearrange-temperatures-requires number-of-requires returns returns-2)
+    tie.close (tie.spec (λ c κs. search needs) (λ c κs. search needs) returns returns-2)

@@ -7,11 +7,8 @@ use Rattle.draw_events.proofs.kept.keep_sum.Tie as tie
 returns : tie.Need-returns
 returns c = (c .if1 .taken, c .before .before .pre .1)
 
-sum-first-requires : tie.Need-sum-first-requires
-sum-first-requires c κs = search needs
-
 returns-2 : tie.Need-returns-2
 returns-2 c = (refl, c .sum-first .ensures)
 
 pub keep-sum-spec : {M : Type 1} → statement M
-keep-sum-spec = tie.close (tie.spec returns sum-first-requires returns-2)
+keep-sum-spec = tie.close (tie.spec returns (λ c κs. search needs) returns-2)

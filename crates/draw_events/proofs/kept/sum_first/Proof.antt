@@ -15,26 +15,8 @@ Inv-loop n vol a₀ k₀ a k = Rest (addAt (λ (j : ℕ). getD vol j nan)) n a�
 abbrev μ-loop : tie.MeasureT-loop
 μ-loop n vol a₀ k₀ a k = n - k
 
-start-requires : tie.Need-start-requires Inv-loop μ-loop
-start-requires c κs = search needs
-
 loop-holds : tie.Need-loop-holds Inv-loop μ-loop
 loop-holds c = rest-start _ _ _
-
-mul-add-term : tie.Need-mul-add-term Inv-loop μ-loop
-mul-add-term c = search needs
-
-element-copy-out-add-term : tie.Need-element-copy-out-add-term Inv-loop μ-loop
-element-copy-out-add-term c = search needs
-
-add-term-requires : tie.Need-add-term-requires Inv-loop μ-loop
-add-term-requires c κs = search needs
-
-add-k : tie.Need-add-k Inv-loop μ-loop
-add-k c = search needs
-
-loop-less : tie.Need-loop-less Inv-loop μ-loop
-loop-less c = search needs
 
 loop-again : tie.Need-loop-again Inv-loop μ-loop
 loop-again c = rw (c .add-term .ensures) (rest-next _ _ _ _ _ (c .before .before .loop-test .taken) (c .before .before .before .loop .inv))
@@ -49,12 +31,12 @@ sum-first-spec =
     (tie.spec
     Inv-loop
     μ-loop
-    start-requires
+    (λ c κs. search needs)
     loop-holds
-    mul-add-term
-    element-copy-out-add-term
-    add-term-requires
-    add-k
-    loop-less
+    (λ c. search needs)
+    (λ c. search needs)
+    (λ c κs. search needs)
+    (λ c. search needs)
+    (λ c. search needs)
     loop-again
     returns)

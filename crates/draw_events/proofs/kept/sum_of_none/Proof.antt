@@ -5,12 +5,9 @@ use borrow.Author.Needs.{needs}
 use Rattle.draw_events.proofs.kept.sum_of_none.Statement.{statement}
 use Rattle.draw_events.proofs.kept.sum_of_none.Tie as tie
 
-start-requires : tie.Need-start-requires
-start-requires c κs = search needs
-
 returns : tie.Need-returns
 unfolding sumOfFirst iterate
 returns c = λ xs. c .start .ensures
 
 pub sum-of-none-spec : {M : Type 1} → statement M
-sum-of-none-spec = tie.close (tie.spec start-requires returns)
+sum-of-none-spec = tie.close (tie.spec (λ c κs. search needs) returns)

@@ -19,26 +19,8 @@ abbrev μ-loop : tie.MeasureT-loop
 loop-holds : tie.Need-loop-holds Inv-loop μ-loop
 loop-holds c = span-start _ _ _ _ (c .before .pre .1)
 
-mul-add-term : tie.Need-mul-add-term Inv-loop μ-loop
-mul-add-term c = search needs
-
-element-copy-out-add-term : tie.Need-element-copy-out-add-term Inv-loop μ-loop
-element-copy-out-add-term c = search needs
-
-add-term-requires : tie.Need-add-term-requires Inv-loop μ-loop
-add-term-requires c κs = search needs
-
-add-k : tie.Need-add-k Inv-loop μ-loop
-add-k c = search needs
-
-loop-less : tie.Need-loop-less Inv-loop μ-loop
-loop-less c = search needs
-
 loop-again : tie.Need-loop-again Inv-loop μ-loop
 loop-again c = rw (c .add-term .ensures) (span-next _ _ _ _ _ _ (c .before .before .loop-test .taken) (c .before .before .before .loop .inv))
-
-total-of-requires : tie.Need-total-of-requires Inv-loop μ-loop
-total-of-requires c κs = search needs
 
 returns : tie.Need-returns Inv-loop μ-loop
 unfolding volumeUsed
@@ -55,11 +37,11 @@ volume-used-spec =
     Inv-loop
     μ-loop
     loop-holds
-    mul-add-term
-    element-copy-out-add-term
-    add-term-requires
-    add-k
-    loop-less
+    (λ c. search needs)
+    (λ c. search needs)
+    (λ c κs. search needs)
+    (λ c. search needs)
+    (λ c. search needs)
     loop-again
-    total-of-requires
+    (λ c κs. search needs)
     returns)

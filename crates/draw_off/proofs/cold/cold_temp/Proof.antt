@@ -4,15 +4,9 @@ use borrow.Author.Needs.{needs}
 use Rattle.draw_off.proofs.cold.cold_temp.Statement.{statement}
 use Rattle.draw_off.proofs.cold.cold_temp.Tie as tie
 
-sum2-of-one-requires : tie.Need-sum2-of-one-requires
-sum2-of-one-requires c κs = search needs
-
-sum2-of-one-requires-2 : tie.Need-sum2-of-one-requires-2
-sum2-of-one-requires-2 c κs = search needs
-
 returns : tie.Need-returns
 unfolding cold
 returns c = rw (c .sum2-of-one2 .ensures, c .before .sum2-of-one .ensures)
 
 pub cold-temp-spec : {M : Type 1} → statement M
-cold-temp-spec = tie.close (tie.spec sum2-of-one-requires sum2-of-one-requires-2 returns)
+cold-temp-spec = tie.close (tie.spec (λ c κs. search needs) (λ c κs. search needs) returns)

@@ -4,18 +4,9 @@ use borrow.Author.Needs.{needs}
 use Rattle.draw_off.proofs.cold.sum2_of_one.Statement.{statement}
 use Rattle.draw_off.proofs.cold.sum2_of_one.Tie as tie
 
-start-requires : tie.Need-start-requires
-start-requires c κs = search needs
-
-add-term-requires : tie.Need-add-term-requires
-add-term-requires c κs = search needs
-
-total-of-requires : tie.Need-total-of-requires
-total-of-requires c κs = search needs
-
 returns : tie.Need-returns
 unfolding sum2 accumulateAll
 returns c = rw (c .total-of .ensures, c .before .add-term .ensures, c .before .before .start .ensures)
 
 pub sum2-of-one-spec : {M : Type 1} → statement M
-sum2-of-one-spec = tie.close (tie.spec start-requires add-term-requires total-of-requires returns)
+sum2-of-one-spec = tie.close (tie.spec (λ c κs. search needs) (λ c κs. search needs) (λ c κs. search needs) returns)

@@ -4,12 +4,6 @@ use borrow.Author.Needs.{needs}
 use Rattle.draw_off.proofs.draw.draw_feed.Statement.{statement}
 use Rattle.draw_off.proofs.draw.draw_feed.Tie as tie
 
-cold-temp-requires : tie.Need-cold-temp-requires
-cold-temp-requires c κs = search needs
-
-count-share-requires : tie.Need-count-share-requires
-count-share-requires c κs = search needs
-
 returns : tie.Need-returns
 unfolding drawFeed
 returns c = λ held. rw (c .before .before .if1 .taken, ← c .before .cold-temp .ensures) (c .count-share .ensures held)
@@ -19,4 +13,4 @@ unfolding drawFeed
 returns-2 c = λ held. rw (c .if1 .left)
 
 pub draw-feed-spec : {M : Type 1} → statement M
-draw-feed-spec = tie.close (tie.spec cold-temp-requires count-share-requires returns returns-2)
+draw-feed-spec = tie.close (tie.spec (λ c κs. search needs) (λ c κs. search needs) returns returns-2)

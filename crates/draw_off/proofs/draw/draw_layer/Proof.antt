@@ -4,21 +4,9 @@ use borrow.Author.Needs.{needs}
 use Rattle.draw_off.proofs.draw.draw_layer.Statement.{statement}
 use Rattle.draw_off.proofs.draw.draw_layer.Tie as tie
 
-mul-is-no-volume : tie.Need-mul-is-no-volume
-mul-is-no-volume c = search needs
-
-element-copy-out-is-no-volume : tie.Need-element-copy-out-is-no-volume
-element-copy-out-is-no-volume c = search needs
-
-is-no-volume-requires : tie.Need-is-no-volume-requires
-is-no-volume-requires c κs = search needs
-
 returns : tie.Need-returns
 unfolding drawLayer
 returns c = rw (← c .before .is-no-volume .ensures, c .if1 .taken)
-
-draw-share-requires : tie.Need-draw-share-requires
-draw-share-requires c κs = search needs
 
 returns-2 : tie.Need-returns-2
 unfolding drawLayer
@@ -30,9 +18,9 @@ pub draw-layer-spec : {M : Type 1} → statement M
 draw-layer-spec =
     tie.close
     (tie.spec
-    mul-is-no-volume
-    element-copy-out-is-no-volume
-    is-no-volume-requires
+    (λ c. search needs)
+    (λ c. search needs)
+    (λ c κs. search needs)
     returns
-    draw-share-requires
+    (λ c κs. search needs)
     returns-2)

@@ -17,24 +17,12 @@ abbrev μ-loop : tie.MeasureT-loop
 loop-holds : tie.Need-loop-holds Inv-loop μ-loop
 loop-holds c = left-start _ _ _ _ _ _
 
-is-no-volume-requires : tie.Need-is-no-volume-requires Inv-loop μ-loop
-is-no-volume-requires c κs = search needs
-
 returns : tie.Need-returns Inv-loop μ-loop
 returns c =
     let test = c .before .before in
     let left = test .before .loop .inv in
     let none = sym (c .before .is-no-volume .ensures) ∙ c .if1 .taken in
     (rw draw-descends (descent-stop _ _ _ _ _ _ (test .loop-test .taken) none (left .descent)), left-stop _ _ _ _ _ _ _ _ left (test .loop-test .taken) none)
-
-sub-i : tie.Need-sub-i Inv-loop μ-loop
-sub-i c = search needs
-
-draw-layer-requires : tie.Need-draw-layer-requires Inv-loop μ-loop
-draw-layer-requires c κs = search needs
-
-loop-less : tie.Need-loop-less Inv-loop μ-loop
-loop-less c = search needs
 
 loop-again : tie.Need-loop-again Inv-loop μ-loop
 loop-again c =
@@ -54,10 +42,10 @@ draw-layers-spec =
     Inv-loop
     μ-loop
     loop-holds
-    is-no-volume-requires
+    (λ c κs. search needs)
     returns
-    sub-i
-    draw-layer-requires
-    loop-less
+    (λ c. search needs)
+    (λ c κs. search needs)
+    (λ c. search needs)
     loop-again
     returns-2)

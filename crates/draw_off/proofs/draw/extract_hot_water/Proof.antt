@@ -4,12 +4,6 @@ use borrow.Author.Needs.{needs}
 use Rattle.draw_off.proofs.draw.extract_hot_water.Statement.{statement}
 use Rattle.draw_off.proofs.draw.extract_hot_water.Tie as tie
 
-draw-layers-requires : tie.Need-draw-layers-requires
-draw-layers-requires c κs = search needs
-
-draw-feed-requires : tie.Need-draw-feed-requires
-draw-feed-requires c κs = search needs
-
 returns : tie.Need-returns
 unfolding extract untouched
 returns c =
@@ -17,4 +11,4 @@ returns c =
     (rw (← layers .0) (c .draw-feed .ensures _), layers .1)
 
 pub extract-hot-water-spec : {M : Type 1} → statement M
-extract-hot-water-spec = tie.close (tie.spec draw-layers-requires draw-feed-requires returns)
+extract-hot-water-spec = tie.close (tie.spec (λ c κs. search needs) (λ c κs. search needs) returns)

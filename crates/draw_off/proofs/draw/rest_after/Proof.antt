@@ -4,9 +4,6 @@ use borrow.Author.Needs.{needs}
 use Rattle.draw_off.proofs.draw.rest_after.Statement.{statement}
 use Rattle.draw_off.proofs.draw.rest_after.Tie as tie
 
-does-give-all-requires : tie.Need-does-give-all-requires
-does-give-all-requires c κs = search needs
-
 returns : tie.Need-returns
 unfolding restAfter
 returns c = rw (← c .before .does-give-all .ensures, c .if1 .taken)
@@ -16,4 +13,4 @@ unfolding restAfter
 returns-2 c = rw (← c .before .does-give-all .ensures, c .if1 .left)
 
 pub rest-after-spec : {M : Type 1} → statement M
-rest-after-spec = tie.close (tie.spec does-give-all-requires returns returns-2)
+rest-after-spec = tie.close (tie.spec (λ c κs. search needs) returns returns-2)

@@ -4,9 +4,6 @@ use borrow.Author.Needs.{needs}
 use Rattle.draw_off.proofs.draw.share_of.Statement.{statement}
 use Rattle.draw_off.proofs.draw.share_of.Tie as tie
 
-does-give-all-requires : tie.Need-does-give-all-requires
-does-give-all-requires c κs = search needs
-
 returns : tie.Need-returns
 unfolding share
 returns c = rw (← c .before .does-give-all .ensures, c .if1 .taken)
@@ -16,4 +13,4 @@ unfolding share
 returns-2 c = rw (← c .before .does-give-all .ensures, c .if1 .left)
 
 pub share-of-spec : {M : Type 1} → statement M
-share-of-spec = tie.close (tie.spec does-give-all-requires returns returns-2)
+share-of-spec = tie.close (tie.spec (λ c κs. search needs) returns returns-2)

@@ -8,24 +8,6 @@ use borrow.Author.Needs.{needs}
 use Rattle.heating.proofs.final_temps.calc_final_temps.Statement.{statement}
 use Rattle.heating.proofs.final_temps.calc_final_temps.Tie as tie
 
-calc-temps-with-energy-input-requires : tie.Need-calc-temps-with-energy-input-requires
-calc-temps-with-energy-input-requires c κs = search needs
-
-rearrange-temperatures-requires : tie.Need-rearrange-temperatures-requires
-rearrange-temperatures-requires c κs = search needs
-
-enum-known-mixing : tie.Need-enum-known-mixing
-enum-known-mixing c = search needs
-
-energy-input-requires : tie.Need-energy-input-requires
-energy-input-requires c κs = search needs
-
-calc-temps-after-thermal-losses-requires : tie.Need-calc-temps-after-thermal-losses-requires
-calc-temps-after-thermal-losses-requires c κs = search needs
-
-enum-known-mixing-2 : tie.Need-enum-known-mixing-2
-enum-known-mixing-2 c = search needs
-
 returns : tie.Need-returns
 unfolding afterMixing adjustedInput
 returns c =
@@ -54,11 +36,11 @@ pub calc-final-temps-spec : {M : Type 1} → statement M
 calc-final-temps-spec =
     tie.close
     (tie.spec
-    calc-temps-with-energy-input-requires
-    rearrange-temperatures-requires
-    enum-known-mixing
-    energy-input-requires
-    calc-temps-after-thermal-losses-requires
-    enum-known-mixing-2
+    (λ c κs. search needs)
+    (λ c κs. search needs)
+    (λ c. search needs)
+    (λ c κs. search needs)
+    (λ c κs. search needs)
+    (λ c. search needs)
     returns
     returns-2)

@@ -19,33 +19,6 @@ abbrev μ-loop : tie.MeasureT-loop
 loop-holds : tie.Need-loop-holds Inv-loop μ-loop
 loop-holds c = rest-start _ _ _
 
-offer-to-requires : tie.Need-offer-to-requires Inv-loop μ-loop
-offer-to-requires c κs = search needs
-
-mul-temps : tie.Need-mul-temps Inv-loop μ-loop
-mul-temps c = search needs
-
-element-copy-out-temps : tie.Need-element-copy-out-temps Inv-loop μ-loop
-element-copy-out-temps c = search needs
-
-mul-temps-2 : tie.Need-mul-temps-2 Inv-loop μ-loop
-mul-temps-2 c = search needs
-
-element-copy-out-temps-2 : tie.Need-element-copy-out-temps-2 Inv-loop μ-loop
-element-copy-out-temps-2 c = search needs
-
-mul-temps-3 : tie.Need-mul-temps-3 Inv-loop μ-loop
-mul-temps-3 c = search needs
-
-element-write-temps : tie.Need-element-write-temps Inv-loop μ-loop
-element-write-temps c = search needs
-
-add-k : tie.Need-add-k Inv-loop μ-loop
-add-k c = search needs
-
-loop-less : tie.Need-loop-less Inv-loop μ-loop
-loop-less c = search needs
-
 loop-again : tie.Need-loop-again Inv-loop μ-loop
 loop-again c =
     let offered = c .before .before .before in
@@ -63,14 +36,14 @@ calc-temps-with-energy-input-spec =
     Inv-loop
     μ-loop
     loop-holds
-    offer-to-requires
-    mul-temps
-    element-copy-out-temps
-    mul-temps-2
-    element-copy-out-temps-2
-    mul-temps-3
-    element-write-temps
-    add-k
-    loop-less
+    (λ c κs. search needs)
+    (λ c. search needs)
+    (λ c. search needs)
+    (λ c. search needs)
+    (λ c. search needs)
+    (λ c. search needs)
+    (λ c. search needs)
+    (λ c. search needs)
+    (λ c. search needs)
     loop-again
     returns)

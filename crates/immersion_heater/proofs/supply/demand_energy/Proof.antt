@@ -4,15 +4,9 @@ use borrow.Author.Needs.{needs}
 use Rattle.immersion_heater.proofs.supply.demand_energy.Statement.{statement}
 use Rattle.immersion_heater.proofs.supply.demand_energy.Tie as tie
 
-energy-demand-requires : tie.Need-energy-demand-requires
-energy-demand-requires c κs = search needs
-
-min-of-2-requires : tie.Need-min-of-2-requires
-min-of-2-requires c κs = search needs
-
 returns : tie.Need-returns
 unfolding supply
 returns c = rw (c .min-of-2 .ensures, c .before .energy-demand .ensures)
 
 pub demand-energy-spec : {M : Type 1} → statement M
-demand-energy-spec = tie.close (tie.spec energy-demand-requires min-of-2-requires returns)
+demand-energy-spec = tie.close (tie.spec (λ c κs. search needs) (λ c κs. search needs) returns)

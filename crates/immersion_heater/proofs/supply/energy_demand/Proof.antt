@@ -4,9 +4,6 @@ use borrow.Author.Needs.{needs}
 use Rattle.immersion_heater.proofs.supply.energy_demand.Statement.{statement}
 use Rattle.immersion_heater.proofs.supply.energy_demand.Tie as tie
 
-is-wide-close-requires : tie.Need-is-wide-close-requires
-is-wide-close-requires c κs = search needs
-
 returns : tie.Need-returns
 unfolding demand
 returns c = rw (← c .before .is-wide-close .ensures, c .if1 .taken)
@@ -16,4 +13,4 @@ unfolding demand
 returns-2 c = rw (← c .before .is-wide-close .ensures, c .if1 .left)
 
 pub energy-demand-spec : {M : Type 1} → statement M
-energy-demand-spec = tie.close (tie.spec is-wide-close-requires returns returns-2)
+energy-demand-spec = tie.close (tie.spec (λ c κs. search needs) returns returns-2)

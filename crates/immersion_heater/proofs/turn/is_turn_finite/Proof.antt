@@ -5,31 +5,19 @@ use borrow.Author.Needs.{needs}
 use Rattle.immersion_heater.proofs.turn.is_turn_finite.Statement.{statement}
 use Rattle.immersion_heater.proofs.turn.is_turn_finite.Tie as tie
 
-are-finite-requires : tie.Need-are-finite-requires
-are-finite-requires c κs = search needs
-
 returns : tie.Need-returns
 returns c = rw (sym (c .before .are-finite .ensures) ∙ not-true _ (c .if1 .taken))
-
-is-finite-requires : tie.Need-is-finite-requires
-is-finite-requires c κs = search needs
 
 returns-2 : tie.Need-returns-2
 returns-2 c =
     let first = c .before .before in
     rw (sym (first .before .are-finite .ensures) ∙ not-false _ (first .if1 .left), sym (c .before .is-finite .ensures) ∙ not-true _ (c .if2 .taken))
 
-is-finite-requires-2 : tie.Need-is-finite-requires-2
-is-finite-requires-2 c κs = search needs
-
 returns-3 : tie.Need-returns-3
 returns-3 c =
     let second = c .before .before in
     let first = second .before .before in
     rw (sym (first .before .are-finite .ensures) ∙ not-false _ (first .if1 .left), sym (second .before .is-finite .ensures) ∙ not-false _ (second .if2 .left), sym (c .before .is-finite2 .ensures) ∙ not-true _ (c .if3 .taken))
-
-is-finite-requires-3 : tie.Need-is-finite-requires-3
-is-finite-requires-3 c κs = search needs
 
 returns-4 : tie.Need-returns-4
 returns-4 c =
@@ -42,11 +30,11 @@ pub is-turn-finite-spec : {M : Type 1} → statement M
 is-turn-finite-spec =
     tie.close
     (tie.spec
-    are-finite-requires
+    (λ c κs. search needs)
     returns
-    is-finite-requires
+    (λ c κs. search needs)
     returns-2
-    is-finite-requires-2
+    (λ c κs. search needs)
     returns-3
-    is-finite-requires-3
+    (λ c κs. search needs)
     returns-4)

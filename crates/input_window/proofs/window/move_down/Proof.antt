@@ -1,7 +1,7 @@
 -- `window::move_down` meets its contract: the bytes moved so far stand first, and what is still to be moved is as it was.
 use Prim.Native.Nat.{_-_, _≤_}
 use native.Mathlib.Omega.{arith}
-use mathlib.Core.Path.{_≡_, refl, sym, ap, _∙_}
+use mathlib.Core.Path.{_≡_, refl, ap, _∙_}
 use lib.ListN.{length}
 use Rattle.input_window.specs.Window.{moved}
 use Rattle.input_window.proofs.Moved.{moved-length, moved-more}
@@ -17,12 +17,6 @@ abbrev μ-loop : tie.MeasureT-loop
 
 loop-holds : tie.Need-loop-holds Inv-loop μ-loop
 loop-holds c = (omega arith, refl)
-
-sub-loop : tie.Need-sub-loop Inv-loop μ-loop
-sub-loop c = search needs
-
-add-buf : tie.Need-add-buf Inv-loop μ-loop
-add-buf c = search needs
 
 slice-read-buf : tie.Need-slice-read-buf Inv-loop μ-loop
 slice-read-buf c =
@@ -41,12 +35,6 @@ slice-write-buf c =
     let fits = at .pre .1 in
     let same = ap length (inv .1) ∙ moved-length (at .args .from) (at .args .buf .now) (c .before .before .loop .i) (omega arith) in
     omega arith
-
-add-i : tie.Need-add-i Inv-loop μ-loop
-add-i c = search needs
-
-loop-less : tie.Need-loop-less Inv-loop μ-loop
-loop-less c = search needs
 
 loop-again : tie.Need-loop-again Inv-loop μ-loop
 loop-again c =
@@ -81,12 +69,12 @@ move-down-spec =
     Inv-loop
     μ-loop
     loop-holds
-    sub-loop
-    add-buf
+    (λ c. search needs)
+    (λ c. search needs)
     slice-read-buf
     slice-write-buf
-    add-i
-    loop-less
+    (λ c. search needs)
+    (λ c. search needs)
     loop-again
     same-length
     returns)

@@ -29,32 +29,11 @@ Inv-loop count order settings figures flags rounds course ran r₀ k₀ r k =
 abbrev μ-loop : tie.MeasureT-loop
 μ-loop count order settings figures flags rounds course ran r₀ k₀ r k = count - k
 
-no-turns-requires : tie.Need-no-turns-requires Inv-loop μ-loop
-no-turns-requires c κs = search needs
-
 loop-holds : tie.Need-loop-holds Inv-loop μ-loop
 loop-holds c = (omega arith, ap (λ (x : Turns). x .count) (c .no-turns .ensures), ap (λ (x : Turns). x .facts) (c .no-turns .ensures))
 
-mul-h : tie.Need-mul-h Inv-loop μ-loop
-mul-h c = search needs
-
-element-copy-out-h : tie.Need-element-copy-out-h Inv-loop μ-loop
-element-copy-out-h c = search needs
-
 fact-at-requires : tie.Need-fact-at-requires Inv-loop μ-loop
 fact-at-requires c κs = c .before .before .before .before .pre .2 (c .before .before .loop .k) (c .before .loop-test .taken)
-
-mul-fact : tie.Need-mul-fact Inv-loop μ-loop
-mul-fact c = search needs
-
-element-set-from-fact : tie.Need-element-set-from-fact Inv-loop μ-loop
-element-set-from-fact c = search needs
-
-add-k : tie.Need-add-k Inv-loop μ-loop
-add-k c = search needs
-
-loop-less : tie.Need-loop-less Inv-loop μ-loop
-loop-less c = search needs
 
 loop-again : tie.Need-loop-again Inv-loop μ-loop
 loop-again c =
@@ -77,14 +56,14 @@ facts-in-order-spec =
     (tie.spec
     Inv-loop
     μ-loop
-    no-turns-requires
+    (λ c κs. search needs)
     loop-holds
-    mul-h
-    element-copy-out-h
+    (λ c. search needs)
+    (λ c. search needs)
     fact-at-requires
-    mul-fact
-    element-set-from-fact
-    add-k
-    loop-less
+    (λ c. search needs)
+    (λ c. search needs)
+    (λ c. search needs)
+    (λ c. search needs)
     loop-again
     returns)

@@ -3,11 +3,8 @@ use borrow.Author.Needs.{needs}
 use Rattle.job_history.proofs.facts.no_turns.Statement.{statement}
 use Rattle.job_history.proofs.facts.no_turns.Tie as tie
 
-no-fact-requires : tie.Need-no-fact-requires
-no-fact-requires c κs = search needs
-
 returns : tie.Need-returns
 returns c = rw (c .no-fact .ensures)
 
 pub no-turns-spec : {M : Type 1} → statement M
-no-turns-spec = tie.close (tie.spec no-fact-requires returns)
+no-turns-spec = tie.close (tie.spec (λ c κs. search needs) returns)

@@ -10,17 +10,11 @@ use borrow.Author.Needs.{needs}
 use Rattle.job_history.proofs.facts.turns_told.Statement.{statement}
 use Rattle.job_history.proofs.facts.turns_told.Tie as tie
 
-no-turns-requires : tie.Need-no-turns-requires
-no-turns-requires c κs = search needs
-
 returns : tie.Need-returns
 unfolding stepTurns
 returns c =
     let none = none-told _ (sym (c .before .before .pre .many) ∙ c .before .if1 .taken) in
     (c .no-turns .ensures ∙ ap turnsOf (sym none), rw (c .no-turns .ensures) (omega arith))
-
-heaters-of-requires : tie.Need-heaters-of-requires
-heaters-of-requires c κs = search needs
 
 working-order-requires : tie.Need-working-order-requires
 working-order-requires c κs = few-heaters (c .before .before .before .before .args .t) (c .before .before .before .before .args .a) _ _ (c .before .before .before .before .pre) (c .before .before .before .if1 .left)
@@ -45,9 +39,9 @@ pub turns-told-spec : {M : Type 1} → statement M
 turns-told-spec =
     tie.close
     (tie.spec
-    no-turns-requires
+    (λ c κs. search needs)
     returns
-    heaters-of-requires
+    (λ c κs. search needs)
     working-order-requires
     facts-in-order-requires
     returns-2)

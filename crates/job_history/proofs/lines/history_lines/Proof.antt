@@ -6,18 +6,6 @@ use borrow.Author.Needs.{needs}
 use Rattle.job_history.proofs.lines.history_lines.Statement.{statement}
 use Rattle.job_history.proofs.lines.history_lines.Tie as tie
 
-put-head-requires : tie.Need-put-head-requires
-put-head-requires c κs = search needs
-
-put-byte-requires : tie.Need-put-byte-requires
-put-byte-requires c κs = search needs
-
-put-turn-lines-requires : tie.Need-put-turn-lines-requires
-put-turn-lines-requires c κs = search needs
-
-same-length : tie.Need-same-length
-same-length c = search needs
-
 returns : tie.Need-returns
 unfolding historyLines
 returns c =
@@ -27,4 +15,4 @@ returns c =
 pub history-lines-spec : {M : Type 1} → statement M
 history-lines-spec =
     tie.close
-    (tie.spec put-head-requires put-byte-requires put-turn-lines-requires same-length returns)
+    (tie.spec (λ c κs. search needs) (λ c κs. search needs) (λ c κs. search needs) (λ c. search needs) returns)

@@ -5,17 +5,8 @@ use borrow.Author.Needs.{needs}
 use Rattle.job_history.proofs.lines.put_missing.Statement.{statement}
 use Rattle.job_history.proofs.lines.put_missing.Tie as tie
 
-put-byte-requires : tie.Need-put-byte-requires
-put-byte-requires c κs = search needs
-
-put-byte-requires-2 : tie.Need-put-byte-requires-2
-put-byte-requires-2 c κs = search needs
-
-same-length : tie.Need-same-length
-same-length c = search needs
-
 returns : tie.Need-returns
 returns c = (put-then (c .before .before .before .before .before .before .put-byte .ensures .0) (c .before .before .put-byte2 .ensures .0), omega arith)
 
 pub put-missing-spec : {M : Type 1} → statement M
-put-missing-spec = tie.close (tie.spec put-byte-requires put-byte-requires-2 same-length returns)
+put-missing-spec = tie.close (tie.spec (λ c κs. search needs) (λ c κs. search needs) (λ c. search needs) returns)

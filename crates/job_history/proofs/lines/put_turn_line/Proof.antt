@@ -6,19 +6,10 @@ use borrow.Author.Needs.{needs}
 use Rattle.job_history.proofs.lines.put_turn_line.Statement.{statement}
 use Rattle.job_history.proofs.lines.put_turn_line.Tie as tie
 
-put-course-requires : tie.Need-put-course-requires
-put-course-requires c κs = search needs
-
-put-outcome-requires : tie.Need-put-outcome-requires
-put-outcome-requires c κs = search needs
-
-same-length : tie.Need-same-length
-same-length c = search needs
-
 returns : tie.Need-returns
 unfolding turnLine
 returns c = ((put-then (c .before .before .before .before .before .before .put-course .ensures .0) (c .before .before .put-outcome .ensures .0)), omega arith)
 
 pub put-turn-line-spec : {M : Type 1} → statement M
 put-turn-line-spec =
-    tie.close (tie.spec put-course-requires put-outcome-requires same-length returns)
+    tie.close (tie.spec (λ c κs. search needs) (λ c κs. search needs) (λ c. search needs) returns)

@@ -5,17 +5,8 @@ use borrow.Author.Needs.{needs}
 use Rattle.job_history.proofs.record.tell_step.Statement.{statement}
 use Rattle.job_history.proofs.record.tell_step.Tie as tie
 
-told-step-requires : tie.Need-told-step-requires
-told-step-requires c κs = search needs
-
-history-lines-requires : tie.Need-history-lines-requires
-history-lines-requires c κs = search needs
-
 add-job : tie.Need-add-job
 add-job c = search (needs, c .before .before .before .before .before .before .before .before .before .before .before .before .before .pre)
-
-same-length : tie.Need-same-length
-same-length c = search needs
 
 returns : tie.Need-returns
 unfolding stepHistory historyStep
@@ -27,8 +18,8 @@ pub tell-step-spec : {M : Type 1} → statement M
 tell-step-spec =
     tie.close
     (tie.spec
-    told-step-requires
-    history-lines-requires
+    (λ c κs. search needs)
+    (λ c κs. search needs)
     add-job
-    same-length
+    (λ c. search needs)
     returns)

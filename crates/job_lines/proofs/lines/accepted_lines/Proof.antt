@@ -6,24 +6,6 @@ use borrow.Author.Needs.{needs}
 use Rattle.job_lines.proofs.lines.accepted_lines.Statement.{statement}
 use Rattle.job_lines.proofs.lines.accepted_lines.Tie as tie
 
-at-most-requires : tie.Need-at-most-requires
-at-most-requires c κs = search needs
-
-put-head-requires : tie.Need-put-head-requires
-put-head-requires c κs = search needs
-
-put-totals-requires : tie.Need-put-totals-requires
-put-totals-requires c κs = search needs
-
-put-layers-line-requires : tie.Need-put-layers-line-requires
-put-layers-line-requires c κs = search needs
-
-put-heater-lines-requires : tie.Need-put-heater-lines-requires
-put-heater-lines-requires c κs = search needs
-
-same-length : tie.Need-same-length
-same-length c = search needs
-
 returns : tie.Need-returns
 unfolding acceptedLines
 returns c =
@@ -34,10 +16,10 @@ pub accepted-lines-spec : {M : Type 1} → statement M
 accepted-lines-spec =
     tie.close
     (tie.spec
-    at-most-requires
-    put-head-requires
-    put-totals-requires
-    put-layers-line-requires
-    put-heater-lines-requires
-    same-length
+    (λ c κs. search needs)
+    (λ c κs. search needs)
+    (λ c κs. search needs)
+    (λ c κs. search needs)
+    (λ c κs. search needs)
+    (λ c. search needs)
     returns)

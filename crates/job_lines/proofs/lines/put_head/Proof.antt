@@ -6,18 +6,6 @@ use borrow.Author.Needs.{needs}
 use Rattle.job_lines.proofs.lines.put_head.Statement.{statement}
 use Rattle.job_lines.proofs.lines.put_head.Tie as tie
 
-put-byte-requires : tie.Need-put-byte-requires
-put-byte-requires c κs = search needs
-
-put-number-requires : tie.Need-put-number-requires
-put-number-requires c κs = search needs
-
-put-number-requires-2 : tie.Need-put-number-requires-2
-put-number-requires-2 c κs = search needs
-
-same-length : tie.Need-same-length
-same-length c = search needs
-
 returns : tie.Need-returns
 unfolding headText
 returns c = (put-then (put-then (c .before .before .before .before .before .before .before .before .before .before .put-byte .ensures .0) (c .before .before .before .before .before .before .put-number .ensures .0)) (c .before .before .put-number2 .ensures .0), omega arith)
@@ -25,4 +13,4 @@ returns c = (put-then (put-then (c .before .before .before .before .before .befo
 pub put-head-spec : {M : Type 1} → statement M
 put-head-spec =
     tie.close
-    (tie.spec put-byte-requires put-number-requires put-number-requires-2 same-length returns)
+    (tie.spec (λ c κs. search needs) (λ c κs. search needs) (λ c κs. search needs) (λ c. search needs) returns)

@@ -19,26 +19,11 @@ loop-holds : tie.Need-loop-holds Inv-loop μ-loop
 unfolding joined
 loop-holds c = (omega arith, omega arith, put-nothing _ _)
 
-mul-h : tie.Need-mul-h Inv-loop μ-loop
-mul-h c = search needs
-
-array-read-h : tie.Need-array-read-h Inv-loop μ-loop
-array-read-h c = search needs
-
 mul-line : tie.Need-mul-line Inv-loop μ-loop
 mul-line c = omega (arith, c .before .before .before .pre .2 (c .before .loop .k) (omega arith))
 
 array-copy-out-line : tie.Need-array-copy-out-line Inv-loop μ-loop
 array-copy-out-line c = omega (arith, c .before .before .before .pre .2 (c .before .loop .k) (omega arith))
-
-put-heater-line-requires : tie.Need-put-heater-line-requires Inv-loop μ-loop
-put-heater-line-requires c κs = search needs
-
-add-k : tie.Need-add-k Inv-loop μ-loop
-add-k c = search needs
-
-loop-less : tie.Need-loop-less Inv-loop μ-loop
-loop-less c = search needs
 
 loop-again : tie.Need-loop-again Inv-loop μ-loop
 loop-again c =
@@ -62,13 +47,13 @@ put-heater-lines-spec =
     Inv-loop
     μ-loop
     loop-holds
-    mul-h
-    array-read-h
+    (λ c. search needs)
+    (λ c. search needs)
     mul-line
     array-copy-out-line
-    put-heater-line-requires
-    add-k
-    loop-less
+    (λ c κs. search needs)
+    (λ c. search needs)
+    (λ c. search needs)
     loop-again
     same-length
     returns)

@@ -19,21 +19,6 @@ loop-holds : tie.Need-loop-holds Inv-loop μ-loop
 unfolding joined
 loop-holds c = (omega arith, omega arith, put-nothing _ _)
 
-mul-put-double : tie.Need-mul-put-double Inv-loop μ-loop
-mul-put-double c = search needs
-
-element-copy-out-put-double : tie.Need-element-copy-out-put-double Inv-loop μ-loop
-element-copy-out-put-double c = search needs
-
-put-double-requires : tie.Need-put-double-requires Inv-loop μ-loop
-put-double-requires c κs = search needs
-
-add-k : tie.Need-add-k Inv-loop μ-loop
-add-k c = search needs
-
-loop-less : tie.Need-loop-less Inv-loop μ-loop
-loop-less c = search needs
-
 loop-again : tie.Need-loop-again Inv-loop μ-loop
 loop-again c =
     let at = c .before .before .before .before .before .before .loop in
@@ -56,11 +41,11 @@ put-layers-spec =
     Inv-loop
     μ-loop
     loop-holds
-    mul-put-double
-    element-copy-out-put-double
-    put-double-requires
-    add-k
-    loop-less
+    (λ c. search needs)
+    (λ c. search needs)
+    (λ c κs. search needs)
+    (λ c. search needs)
+    (λ c. search needs)
     loop-again
     same-length
     returns)

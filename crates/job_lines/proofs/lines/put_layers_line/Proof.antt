@@ -6,18 +6,6 @@ use borrow.Author.Needs.{needs}
 use Rattle.job_lines.proofs.lines.put_layers_line.Statement.{statement}
 use Rattle.job_lines.proofs.lines.put_layers_line.Tie as tie
 
-put-byte-requires : tie.Need-put-byte-requires
-put-byte-requires c κs = search needs
-
-put-layers-requires : tie.Need-put-layers-requires
-put-layers-requires c κs = search needs
-
-put-byte-requires-2 : tie.Need-put-byte-requires-2
-put-byte-requires-2 c κs = search needs
-
-same-length : tie.Need-same-length
-same-length c = search needs
-
 returns : tie.Need-returns
 unfolding layersLine
 returns c = (put-then (put-then (c .before .before .before .before .before .before .before .before .before .before .put-byte .ensures .0) (c .before .before .before .before .before .before .put-layers .ensures .0)) (c .before .before .put-byte2 .ensures .0), omega arith)
@@ -25,4 +13,4 @@ returns c = (put-then (put-then (c .before .before .before .before .before .befo
 pub put-layers-line-spec : {M : Type 1} → statement M
 put-layers-line-spec =
     tie.close
-    (tie.spec put-byte-requires put-layers-requires put-byte-requires-2 same-length returns)
+    (tie.spec (λ c κs. search needs) (λ c κs. search needs) (λ c κs. search needs) (λ c. search needs) returns)

@@ -6,21 +6,6 @@ use borrow.Author.Needs.{needs}
 use Rattle.job_lines.proofs.lines.refusal_line.Statement.{statement}
 use Rattle.job_lines.proofs.lines.refusal_line.Tie as tie
 
-put-byte-requires : tie.Need-put-byte-requires
-put-byte-requires c κs = search needs
-
-put-number-requires : tie.Need-put-number-requires
-put-number-requires c κs = search needs
-
-put-number-requires-2 : tie.Need-put-number-requires-2
-put-number-requires-2 c κs = search needs
-
-put-byte-requires-2 : tie.Need-put-byte-requires-2
-put-byte-requires-2 c κs = search needs
-
-same-length : tie.Need-same-length
-same-length c = search needs
-
 returns : tie.Need-returns
 unfolding refusalLine
 returns c =
@@ -31,9 +16,9 @@ pub refusal-line-spec : {M : Type 1} → statement M
 refusal-line-spec =
     tie.close
     (tie.spec
-    put-byte-requires
-    put-number-requires
-    put-number-requires-2
-    put-byte-requires-2
-    same-length
+    (λ c κs. search needs)
+    (λ c κs. search needs)
+    (λ c κs. search needs)
+    (λ c κs. search needs)
+    (λ c. search needs)
     returns)

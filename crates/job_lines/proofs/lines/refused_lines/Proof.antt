@@ -6,21 +6,6 @@ use borrow.Author.Needs.{needs}
 use Rattle.job_lines.proofs.lines.refused_lines.Statement.{statement}
 use Rattle.job_lines.proofs.lines.refused_lines.Tie as tie
 
-at-most-requires : tie.Need-at-most-requires
-at-most-requires c κs = search needs
-
-put-head-requires : tie.Need-put-head-requires
-put-head-requires c κs = search needs
-
-put-byte-requires : tie.Need-put-byte-requires
-put-byte-requires c κs = search needs
-
-put-layers-line-requires : tie.Need-put-layers-line-requires
-put-layers-line-requires c κs = search needs
-
-same-length : tie.Need-same-length
-same-length c = search needs
-
 returns : tie.Need-returns
 unfolding refusedLines
 returns c =
@@ -31,9 +16,9 @@ pub refused-lines-spec : {M : Type 1} → statement M
 refused-lines-spec =
     tie.close
     (tie.spec
-    at-most-requires
-    put-head-requires
-    put-byte-requires
-    put-layers-line-requires
-    same-length
+    (λ c κs. search needs)
+    (λ c κs. search needs)
+    (λ c κs. search needs)
+    (λ c κs. search needs)
+    (λ c. search needs)
     returns)

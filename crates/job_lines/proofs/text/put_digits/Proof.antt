@@ -20,26 +20,8 @@ abbrev μ-loop : tie.MeasureT-loop
 loop-holds : tie.Need-loop-holds Inv-loop μ-loop
 loop-holds c = (omega arith, refl, refl)
 
-sub-i : tie.Need-sub-i Inv-loop μ-loop
-sub-i c = search needs
-
-add-store : tie.Need-add-store Inv-loop μ-loop
-add-store c = search needs
-
-rem-digit : tie.Need-rem-digit Inv-loop μ-loop
-rem-digit c = search needs
-
 digit-requires : tie.Need-digit-requires Inv-loop μ-loop
 digit-requires c κs = omega (arith, mod-lt (c .before .before .loop .rest) {m = c .before .before .before .before .args .base} (omega arith))
-
-store-requires : tie.Need-store-requires Inv-loop μ-loop
-store-requires c κs = search needs
-
-div-rest : tie.Need-div-rest Inv-loop μ-loop
-div-rest c = search needs
-
-loop-less : tie.Need-loop-less Inv-loop μ-loop
-loop-less c = search needs
 
 loop-again : tie.Need-loop-again Inv-loop μ-loop
 loop-again c =
@@ -51,9 +33,6 @@ loop-again c =
       rw stored (simp length-set (at .inv .1)),
       rw (stored, c .before .before .before .digit .ensures, digits-next (at .buf) (args .at) (args .base) (at .i - 1) (at .rest)) (rw e at (at .inv .2)),
     )
-
-add-result : tie.Need-add-result Inv-loop μ-loop
-add-result c = search needs
 
 same-length : tie.Need-same-length Inv-loop μ-loop
 same-length c = c .before .loop .inv .1
@@ -72,14 +51,14 @@ put-digits-spec =
     Inv-loop
     μ-loop
     loop-holds
-    sub-i
-    add-store
-    rem-digit
+    (λ c. search needs)
+    (λ c. search needs)
+    (λ c. search needs)
     digit-requires
-    store-requires
-    div-rest
-    loop-less
+    (λ c κs. search needs)
+    (λ c. search needs)
+    (λ c. search needs)
     loop-again
-    add-result
+    (λ c. search needs)
     same-length
     returns)

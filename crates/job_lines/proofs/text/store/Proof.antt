@@ -5,17 +5,8 @@ use borrow.Author.Needs.{needs}
 use Rattle.job_lines.proofs.text.store.Statement.{statement}
 use Rattle.job_lines.proofs.text.store.Tie as tie
 
-slice-write-buf : tie.Need-slice-write-buf
-slice-write-buf c = search needs
-
-same-length : tie.Need-same-length
-same-length c = search needs
-
-returns : tie.Need-returns
-returns c = search needs
-
 returns-2 : tie.Need-returns-2
 returns-2 c = sym (set-out _ _ _ (c .if1 .left))
 
 pub store-spec : {M : Type 1} → statement M
-store-spec = tie.close (tie.spec slice-write-buf same-length returns returns-2)
+store-spec = tie.close (tie.spec (λ c. search needs) (λ c. search needs) (λ c. search needs) returns-2)

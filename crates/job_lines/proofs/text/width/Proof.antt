@@ -25,12 +25,6 @@ returns c =
     let e : 20 - at .k ≡ suc (20 - (at .k + 1)) = omega arith in
     (rw (e, eq-eqb _ _ (c .if1 .taken)) at (at .inv .1), omega arith)
 
-add-k : tie.Need-add-k Inv-loop μ-loop
-add-k c = search needs
-
-loop-less : tie.Need-loop-less Inv-loop μ-loop
-loop-less c = search needs
-
 loop-again : tie.Need-loop-again Inv-loop μ-loop
 unfolding widthFrom
 loop-again c =
@@ -47,4 +41,4 @@ returns-2 c =
 
 pub width-spec : {M : Type 1} → statement M
 width-spec =
-    tie.close (tie.spec Inv-loop μ-loop loop-holds returns add-k loop-less loop-again returns-2)
+    tie.close (tie.spec Inv-loop μ-loop loop-holds returns (λ c. search needs) (λ c. search needs) loop-again returns-2)

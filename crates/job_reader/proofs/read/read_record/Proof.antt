@@ -9,51 +9,21 @@ use borrow.Author.Needs.{needs}
 use Rattle.job_reader.proofs.read.read_record.Statement.{statement}
 use Rattle.job_reader.proofs.read.read_record.Tie as tie
 
-refused-requires : tie.Need-refused-requires
-refused-requires c κs = search needs
-
 returns : tie.Need-returns
 unfolding readRecord
 returns c = record-read _ _ _ _ _ _ (rw (lt-leb _ _ (c .before .if1 .taken)) (c .refused .ensures))
-
-refused-requires-2 : tie.Need-refused-requires-2
-refused-requires-2 c κs = search needs
 
 returns-2 : tie.Need-returns-2
 unfolding readRecord
 returns-2 c = record-read _ _ _ _ _ _ (rw (le-leb _ _ (c .before .before .if1 .left), lt-leb (c .before .before .before .before .args .at + 6) (length (c .before .before .before .before .args .s .now)) (omega arith)) (c .refused2 .ensures))
 
-sub-if3 : tie.Need-sub-if3
-sub-if3 c = search needs
-
-refused-requires-3 : tie.Need-refused-requires-3
-refused-requires-3 c κs = search needs
-
 returns-3 : tie.Need-returns-3
 unfolding readRecord
 returns-3 c = record-read _ _ _ _ _ _ (rw (le-leb _ _ (c .before .before .before .if1 .left), lt-leb (c .before .before .before .before .before .args .at + 6) (length (c .before .before .before .before .before .args .s .now)) (omega arith)) (c .refused3 .ensures))
 
-u32-at-requires : tie.Need-u32-at-requires
-u32-at-requires c κs = search needs
-
-cast-size : tie.Need-cast-size
-cast-size c = search needs
-
-sub-if4 : tie.Need-sub-if4
-sub-if4 c = search needs
-
-sub-if4-2 : tie.Need-sub-if4-2
-sub-if4-2 c = search needs
-
-refused-requires-4 : tie.Need-refused-requires-4
-refused-requires-4 c κs = search needs
-
 returns-4 : tie.Need-returns-4
 unfolding readRecord
 returns-4 c = record-read _ _ _ _ _ _ (rw (le-leb _ _ (c .before .before .before .before .before .if1 .left), le-leb (c .before .before .before .before .before .before .before .args .at + 6) (length (c .before .before .before .before .before .before .before .args .s .now)) (omega arith), ← c .before .before .u32-at .ensures, lt-leb (c .before .before .before .before .before .before .before .args .at + 4 + c .before .before .u32-at .result) (length (c .before .before .before .before .before .before .before .args .s .now)) (omega arith)) (c .refused4 .ensures))
-
-record-at-requires : tie.Need-record-at-requires
-record-at-requires c κs = search needs
 
 returns-5 : tie.Need-returns-5
 unfolding readRecord
@@ -63,18 +33,18 @@ pub read-record-spec : {M : Type 1} → statement M
 read-record-spec =
     tie.close
     (tie.spec
-    refused-requires
+    (λ c κs. search needs)
     returns
-    refused-requires-2
+    (λ c κs. search needs)
     returns-2
-    sub-if3
-    refused-requires-3
+    (λ c. search needs)
+    (λ c κs. search needs)
     returns-3
-    u32-at-requires
-    cast-size
-    sub-if4
-    sub-if4-2
-    refused-requires-4
+    (λ c κs. search needs)
+    (λ c. search needs)
+    (λ c. search needs)
+    (λ c. search needs)
+    (λ c κs. search needs)
     returns-4
-    record-at-requires
+    (λ c κs. search needs)
     returns-5)

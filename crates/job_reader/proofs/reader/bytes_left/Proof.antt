@@ -4,9 +4,6 @@ use borrow.Author.Tests.{le-leb, lt-leb}
 use Rattle.job_reader.proofs.reader.bytes_left.Statement.{statement}
 use Rattle.job_reader.proofs.reader.bytes_left.Tie as tie
 
-sub-result : tie.Need-sub-result
-sub-result c = search needs
-
 returns : tie.Need-returns
 returns c = simp (le-leb _ _ (c .if1 .taken))
 
@@ -14,4 +11,4 @@ returns-2 : tie.Need-returns-2
 returns-2 c = simp (lt-leb _ _ (c .if1 .left))
 
 pub bytes-left-spec : {M : Type 1} → statement M
-bytes-left-spec = tie.close (tie.spec sub-result returns returns-2)
+bytes-left-spec = tie.close (tie.spec (λ c. search needs) returns returns-2)

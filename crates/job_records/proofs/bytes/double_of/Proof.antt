@@ -13,8 +13,5 @@ returns : tie.Need-returns
 unfolding div ofBits
 returns c = sym (nan-pattern (c .before .args .bits) (search needs))
 
-returns-2 : tie.Need-returns-2
-returns-2 c = search needs
-
 pub double-of-spec : {M : Type 1} → statement M
-double-of-spec = tie.close (tie.spec float-from-bits-result returns returns-2)
+double-of-spec = tie.close (tie.spec float-from-bits-result returns (λ c. search needs))

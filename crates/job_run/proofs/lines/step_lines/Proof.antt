@@ -14,30 +14,12 @@ use borrow.Author.Needs.{needs}
 use Rattle.job_run.proofs.lines.step_lines.Statement.{statement}
 use Rattle.job_run.proofs.lines.step_lines.Tie as tie
 
-refused-lines-requires : tie.Need-refused-lines-requires
-refused-lines-requires c κs = search needs
-
-same-length : tie.Need-same-length
-same-length c = search needs
-
 returns : tie.Need-returns
 unfolding stepLines
 returns c = rw (ne-eqb _ _ (c .before .before .before .before .before .if1 .taken)) (c .before .before .refused-lines .ensures)
 
-at-most-requires : tie.Need-at-most-requires
-at-most-requires c κs = search needs
-
-heaters-of-requires : tie.Need-heaters-of-requires
-heaters-of-requires c κs = search needs
-
-working-order-requires : tie.Need-working-order-requires
-working-order-requires c κs = search needs
-
 accepted-lines-requires : tie.Need-accepted-lines-requires
 accepted-lines-requires c κs = (omega arith, λ k l. omega (arith, entry _ _ _ (c .before .before .working-order .ensures) k l))
-
-same-length-2 : tie.Need-same-length-2
-same-length-2 c = search needs
 
 returns-2 : tie.Need-returns-2
 unfolding stepLines
@@ -53,12 +35,12 @@ pub step-lines-spec : {M : Type 1} → statement M
 step-lines-spec =
     tie.close
     (tie.spec
-    refused-lines-requires
-    same-length
+    (λ c κs. search needs)
+    (λ c. search needs)
     returns
-    at-most-requires
-    heaters-of-requires
-    working-order-requires
+    (λ c κs. search needs)
+    (λ c κs. search needs)
+    (λ c κs. search needs)
     accepted-lines-requires
-    same-length-2
+    (λ c. search needs)
     returns-2)

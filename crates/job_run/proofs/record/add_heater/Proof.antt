@@ -8,15 +8,6 @@ use borrow.Author.Needs.{needs}
 use Rattle.job_run.proofs.record.add_heater.Statement.{statement}
 use Rattle.job_run.proofs.record.add_heater.Tie as tie
 
-heaters-check-requires : tie.Need-heaters-check-requires
-heaters-check-requires c κs = search needs
-
-refuse-requires : tie.Need-refuse-requires
-refuse-requires c κs = search needs
-
-same-length : tie.Need-same-length
-same-length c = search needs
-
 returns : tie.Need-returns
 unfolding heaterRun
 returns c = rw (← c .before .before .before .before .before .heaters-check .ensures, ne-eqb _ _ (c .before .before .before .before .if1 .taken)) (c .before .before .refuse .ensures)
@@ -25,12 +16,6 @@ with-heater-requires : tie.Need-with-heater-requires
 with-heater-requires c κs =
     let l = few-heaters (c .before .before .before .before .args .j .design .heaters + 1) _ (c .before .heaters-check .ensures) (c .if1 .left) in
     omega (arith, l)
-
-make-tank-requires : tie.Need-make-tank-requires
-make-tank-requires c κs = search needs
-
-same-length-2 : tie.Need-same-length-2
-same-length-2 c = search needs
 
 returns-2 : tie.Need-returns-2
 unfolding heaterRun
@@ -42,11 +27,11 @@ pub add-heater-spec : {M : Type 1} → statement M
 add-heater-spec =
     tie.close
     (tie.spec
-    heaters-check-requires
-    refuse-requires
-    same-length
+    (λ c κs. search needs)
+    (λ c κs. search needs)
+    (λ c. search needs)
     returns
     with-heater-requires
-    make-tank-requires
-    same-length-2
+    (λ c κs. search needs)
+    (λ c. search needs)
     returns-2)

@@ -8,15 +8,6 @@ use borrow.Author.Needs.{needs}
 use Rattle.job_run.proofs.record.make_tank.Statement.{statement}
 use Rattle.job_run.proofs.record.make_tank.Tie as tie
 
-new-requires : tie.Need-new-requires
-new-requires c κs = search needs
-
-refuse-requires : tie.Need-refuse-requires
-refuse-requires c κs = search needs
-
-same-length : tie.Need-same-length
-same-length c = search needs
-
 returns : tie.Need-returns
 unfolding madeRun
 returns c = rw (← c .before .before .before .before .before .before .new .ensures, ne-eqb _ _ (c .before .before .before .before .if1 .taken)) (c .before .before .refuse .ensures)
@@ -26,4 +17,4 @@ unfolding madeRun
 returns-2 c = rw (← c .before .before .before .new .ensures, eq-eqb _ _ (c .before .if1 .left)) (record { goes = refl; counts = refl; prints = sym (written-nothing _); short = omega arith })
 
 pub make-tank-spec : {M : Type 1} → statement M
-make-tank-spec = tie.close (tie.spec new-requires refuse-requires same-length returns returns-2)
+make-tank-spec = tie.close (tie.spec (λ c κs. search needs) (λ c κs. search needs) (λ c. search needs) returns returns-2)

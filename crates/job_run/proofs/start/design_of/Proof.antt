@@ -3,11 +3,8 @@ use borrow.Author.Needs.{needs}
 use Rattle.job_run.proofs.start.design_of.Statement.{statement}
 use Rattle.job_run.proofs.start.design_of.Tie as tie
 
-zero-heater-requires : tie.Need-zero-heater-requires
-zero-heater-requires c κs = search needs
-
 returns : tie.Need-returns
 returns c = rw (c .zero-heater .ensures)
 
 pub design-of-spec : {M : Type 1} → statement M
-design-of-spec = tie.close (tie.spec zero-heater-requires returns)
+design-of-spec = tie.close (tie.spec (λ c κs. search needs) returns)

@@ -3,11 +3,8 @@ use borrow.Author.Needs.{needs}
 use Rattle.job_run.proofs.start.no_report.Statement.{statement}
 use Rattle.job_run.proofs.start.no_report.Tie as tie
 
-zero-line-requires : tie.Need-zero-line-requires
-zero-line-requires c κs = search needs
-
 returns : tie.Need-returns
 returns c = rw (c .zero-line .ensures)
 
 pub no-report-spec : {M : Type 1} → statement M
-no-report-spec = tie.close (tie.spec zero-line-requires returns)
+no-report-spec = tie.close (tie.spec (λ c κs. search needs) returns)

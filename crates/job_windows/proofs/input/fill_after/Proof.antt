@@ -8,18 +8,6 @@ use borrow.Author.Needs.{needs}
 use Rattle.job_windows.proofs.input.fill_after.Statement.{statement}
 use Rattle.job_windows.proofs.input.fill_after.Tie as tie
 
-sub-fill : tie.Need-sub-fill
-sub-fill c = search needs
-
-part-fill-start : tie.Need-part-fill-start
-part-fill-start c = search needs
-
-part-fill-end : tie.Need-part-fill-end
-part-fill-end c = search needs
-
-fill-requires : tie.Need-fill-requires
-fill-requires c κs = search needs
-
 same-length : tie.Need-same-length
 same-length c =
     let a = c .before .before .before .before .before .before .args in
@@ -38,4 +26,4 @@ returns c =
 
 pub fill-after-spec : {M : Type 1} → statement M
 fill-after-spec =
-    tie.close (tie.spec sub-fill part-fill-start part-fill-end fill-requires same-length returns)
+    tie.close (tie.spec (λ c. search needs) (λ c. search needs) (λ c. search needs) (λ c κs. search needs) same-length returns)

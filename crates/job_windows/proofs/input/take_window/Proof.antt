@@ -7,9 +7,6 @@ use borrow.Author.Needs.{needs}
 use Rattle.job_windows.proofs.input.take_window.Statement.{statement}
 use Rattle.job_windows.proofs.input.take_window.Tie as tie
 
-fill-after-requires : tie.Need-fill-after-requires
-fill-after-requires c κs = search needs
-
 same-length : tie.Need-same-length
 same-length c =
     c .before .before .before .fill-after .ensures .1 .0
@@ -17,12 +14,6 @@ same-length c =
 returns : tie.Need-returns
 returns c =
     record { size = c .before .before .before .fill-after .ensures .1 .0; taken = λ e. absurd (true≢false e) }
-
-add-end : tie.Need-add-end
-add-end c = search needs
-
-slice-reshare-prefix-run-window : tie.Need-slice-reshare-prefix-run-window
-slice-reshare-prefix-run-window c = search needs
 
 slice-aggregate-run-window : tie.Need-slice-aggregate-run-window
 slice-aggregate-run-window c =
@@ -83,11 +74,11 @@ pub take-window-spec : {M : Type 1} → statement M
 take-window-spec =
     tie.close
     (tie.spec
-    fill-after-requires
+    (λ c κs. search needs)
     same-length
     returns
-    add-end
-    slice-reshare-prefix-run-window
+    (λ c. search needs)
+    (λ c. search needs)
     slice-aggregate-run-window
     run-window-requires
     same-length-2

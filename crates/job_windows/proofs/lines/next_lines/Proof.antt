@@ -4,21 +4,9 @@ use Rattle.job_windows.specs.Kinds.{linesOf}
 use Rattle.job_windows.proofs.lines.next_lines.Statement.{statement}
 use Rattle.job_windows.proofs.lines.next_lines.Tie as tie
 
-next-history-requires : tie.Need-next-history-requires
-next-history-requires c κs = search needs
-
-same-length : tie.Need-same-length
-same-length c = search needs
-
 returns : tie.Need-returns
 unfolding linesOf
 returns c = rw (c .before .before .before .before .if1 .taken) (c .before .before .next-history .ensures)
-
-next-record-requires : tie.Need-next-record-requires
-next-record-requires c κs = search needs
-
-same-length-2 : tie.Need-same-length-2
-same-length-2 c = search needs
 
 returns-2 : tie.Need-returns-2
 unfolding linesOf
@@ -28,9 +16,9 @@ pub next-lines-spec : {M : Type 1} → statement M
 next-lines-spec =
     tie.close
     (tie.spec
-    next-history-requires
-    same-length
+    (λ c κs. search needs)
+    (λ c. search needs)
     returns
-    next-record-requires
-    same-length-2
+    (λ c κs. search needs)
+    (λ c. search needs)
     returns-2)

@@ -5,23 +5,8 @@ use borrow.Author.Needs.{needs}
 use Rattle.job_windows.proofs.lines.print_lines.Statement.{statement}
 use Rattle.job_windows.proofs.lines.print_lines.Tie as tie
 
-buffer-requires : tie.Need-buffer-requires
-buffer-requires c κs = search needs
-
-slice-aggregate-next-lines : tie.Need-slice-aggregate-next-lines
-slice-aggregate-next-lines c = search needs
-
-next-lines-requires : tie.Need-next-lines-requires
-next-lines-requires c κs = search needs
-
-array-share-prefix-lines : tie.Need-array-share-prefix-lines
-array-share-prefix-lines c = search needs
-
 slice-aggregate-send : tie.Need-slice-aggregate-send
 slice-aggregate-send c = sym (length-take-le _ _ (search needs))
-
-send-requires : tie.Need-send-requires
-send-requires c κs = search needs
 
 returns : tie.Need-returns
 returns c =
@@ -34,10 +19,10 @@ pub print-lines-spec : {M : Type 1} → statement M
 print-lines-spec =
     tie.close
     (tie.spec
-    buffer-requires
-    slice-aggregate-next-lines
-    next-lines-requires
-    array-share-prefix-lines
+    (λ c κs. search needs)
+    (λ c. search needs)
+    (λ c κs. search needs)
+    (λ c. search needs)
     slice-aggregate-send
-    send-requires
+    (λ c κs. search needs)
     returns)

@@ -8,54 +8,6 @@ use borrow.Author.Needs.{needs}
 use Rattle.lent_tank.proofs.flags.bytes_of.Statement.{statement}
 use Rattle.lent_tank.proofs.flags.bytes_of.Tie as tie
 
-array-read-byte-of : tie.Need-array-read-byte-of
-array-read-byte-of c = search needs
-
-byte-of-requires : tie.Need-byte-of-requires
-byte-of-requires c κs = search needs
-
-array-read-byte-of-2 : tie.Need-array-read-byte-of-2
-array-read-byte-of-2 c = search needs
-
-byte-of-requires-2 : tie.Need-byte-of-requires-2
-byte-of-requires-2 c κs = search needs
-
-array-read-byte-of-3 : tie.Need-array-read-byte-of-3
-array-read-byte-of-3 c = search needs
-
-byte-of-requires-3 : tie.Need-byte-of-requires-3
-byte-of-requires-3 c κs = search needs
-
-array-read-byte-of-4 : tie.Need-array-read-byte-of-4
-array-read-byte-of-4 c = search needs
-
-byte-of-requires-4 : tie.Need-byte-of-requires-4
-byte-of-requires-4 c κs = search needs
-
-array-read-byte-of-5 : tie.Need-array-read-byte-of-5
-array-read-byte-of-5 c = search needs
-
-byte-of-requires-5 : tie.Need-byte-of-requires-5
-byte-of-requires-5 c κs = search needs
-
-array-read-byte-of-6 : tie.Need-array-read-byte-of-6
-array-read-byte-of-6 c = search needs
-
-byte-of-requires-6 : tie.Need-byte-of-requires-6
-byte-of-requires-6 c κs = search needs
-
-array-read-byte-of-7 : tie.Need-array-read-byte-of-7
-array-read-byte-of-7 c = search needs
-
-byte-of-requires-7 : tie.Need-byte-of-requires-7
-byte-of-requires-7 c κs = search needs
-
-array-read-byte-of-8 : tie.Need-array-read-byte-of-8
-array-read-byte-of-8 c = search needs
-
-byte-of-requires-8 : tie.Need-byte-of-requires-8
-byte-of-requires-8 c κs = search needs
-
 returns : tie.Need-returns
 unfolding tabulate
 returns c =
@@ -73,20 +25,20 @@ pub bytes-of-spec : {M : Type 1} → statement M
 bytes-of-spec =
     tie.close
     (tie.spec
-    array-read-byte-of
-    byte-of-requires
-    array-read-byte-of-2
-    byte-of-requires-2
-    array-read-byte-of-3
-    byte-of-requires-3
-    array-read-byte-of-4
-    byte-of-requires-4
-    array-read-byte-of-5
-    byte-of-requires-5
-    array-read-byte-of-6
-    byte-of-requires-6
-    array-read-byte-of-7
-    byte-of-requires-7
-    array-read-byte-of-8
-    byte-of-requires-8
+    (λ c. search needs)
+    (λ c κs. search needs)
+    (λ c. search needs)
+    (λ c κs. search needs)
+    (λ c. search needs)
+    (λ c κs. search needs)
+    (λ c. search needs)
+    (λ c κs. search needs)
+    (λ c. search needs)
+    (λ c κs. search needs)
+    (λ c. search needs)
+    (λ c κs. search needs)
+    (λ c. search needs)
+    (λ c κs. search needs)
+    (λ c. search needs)
+    (λ c κs. search needs)
     returns)

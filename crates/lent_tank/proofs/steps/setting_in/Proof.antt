@@ -3,11 +3,8 @@ use borrow.Author.Needs.{needs}
 use Rattle.lent_tank.proofs.steps.setting_in.Statement.{statement}
 use Rattle.lent_tank.proofs.steps.setting_in.Tie as tie
 
-points-at-requires : tie.Need-points-at-requires
-points-at-requires c κs = search needs
-
 returns : tie.Need-returns
 returns c = rw (c .points-at .ensures)
 
 pub setting-in-spec : {M : Type 1} → statement M
-setting-in-spec = tie.close (tie.spec points-at-requires returns)
+setting-in-spec = tie.close (tie.spec (λ c κs. search needs) returns)

@@ -8,12 +8,9 @@ use Rattle.numeric.proofs.bits.bits_of.Tie as tie
 float-to-bits-result : tie.Need-float-to-bits-result
 float-to-bits-result c = equal-number _ (c .if1 .taken)
 
-returns : tie.Need-returns
-returns c = search needs
-
 returns-2 : tie.Need-returns-2
 unfolding toBits
 returns-2 c = rw (unequal-nan _ (c .if1 .left))
 
 pub bits-of-spec : {M : Type 1} → statement M
-bits-of-spec = tie.close (tie.spec float-to-bits-result returns returns-2)
+bits-of-spec = tie.close (tie.spec float-to-bits-result (λ c. search needs) returns-2)

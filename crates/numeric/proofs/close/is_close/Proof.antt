@@ -8,24 +8,15 @@ returns : tie.Need-returns
 unfolding close
 returns c = rw (c .if1 .taken)
 
-is-infinite-requires : tie.Need-is-infinite-requires
-is-infinite-requires c κs = search needs
-
 returns-2 : tie.Need-returns-2
 unfolding close
 returns-2 c = rw (c .before .before .if1 .left, ← c .before .is-infinite .ensures, c .if2 .taken)
-
-is-infinite-requires-2 : tie.Need-is-infinite-requires-2
-is-infinite-requires-2 c κs = search needs
 
 returns-3 : tie.Need-returns-3
 unfolding close
 returns-3 c =
     let at = c .before .before in
     rw (at .before .before .if1 .left, ← at .before .is-infinite .ensures, at .if2 .left, ← c .before .is-infinite2 .ensures, c .if3 .taken)
-
-is-within-requires : tie.Need-is-within-requires
-is-within-requires c κs = search needs
 
 returns-4 : tie.Need-returns-4
 unfolding close
@@ -39,9 +30,9 @@ is-close-spec =
     tie.close
     (tie.spec
     returns
-    is-infinite-requires
+    (λ c κs. search needs)
     returns-2
-    is-infinite-requires-2
+    (λ c κs. search needs)
     returns-3
-    is-within-requires
+    (λ c κs. search needs)
     returns-4)

@@ -10,9 +10,6 @@ returns c = λ f z h.
     let a = c .before in
     rw (c .if1 .taken) at (close-pair (a .args .lower) (a .args .upper) (a .args .e) (passes _ (a .good .0 .1)) (passes _ (a .good .1 .0 .1)) (passes _ f) z h)
 
-is-infinite-requires : tie.Need-is-infinite-requires
-is-infinite-requires c κs = search needs
-
 returns-2 : tie.Need-returns-2
 returns-2 c = λ f z h.
     let a = c .before .before .before in
@@ -25,4 +22,4 @@ returns-3 c = λ f z h.
     rw (c .before .if1 .left, c .if2 .left) at (close-pair (a .args .lower) (a .args .upper) (a .args .e) (passes _ (a .good .0 .1)) (passes _ (a .good .1 .0 .1)) (passes _ f) z h)
 
 pub is-close-pair-spec : {M : Type 1} → statement M
-is-close-pair-spec = tie.close (tie.spec returns is-infinite-requires returns-2 returns-3)
+is-close-pair-spec = tie.close (tie.spec returns (λ c κs. search needs) returns-2 returns-3)

@@ -4,12 +4,9 @@ use borrow.Author.Needs.{needs}
 use Rattle.numeric.proofs.close.is_wide_close.Statement.{statement}
 use Rattle.numeric.proofs.close.is_wide_close.Tie as tie
 
-is-close-requires : tie.Need-is-close-requires
-is-close-requires c κs = search needs
-
 returns : tie.Need-returns
 unfolding wideClose
 returns c = c .is-close .ensures
 
 pub is-wide-close-spec : {M : Type 1} → statement M
-is-wide-close-spec = tie.close (tie.spec is-close-requires returns)
+is-wide-close-spec = tie.close (tie.spec (λ c κs. search needs) returns)

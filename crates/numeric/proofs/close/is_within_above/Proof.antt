@@ -16,11 +16,8 @@ returns-2 c = λ f g h.
     let a = c .before .before in
     sym (within-above (a .args .a) (a .args .b) (a .args .e) (passes _ (a .good .0 .1)) (passes _ (a .good .1 .0 .1)) (passes _ f) (passes _ g) (c .before .if1 .taken) h ∙ rw (c .if2 .left))
 
-is-within-requires : tie.Need-is-within-requires
-is-within-requires c κs = search needs
-
 returns-3 : tie.Need-returns-3
 returns-3 c = λ f g h. c .is-within .ensures
 
 pub is-within-above-spec : {M : Type 1} → statement M
-is-within-above-spec = tie.close (tie.spec returns returns-2 is-within-requires returns-3)
+is-within-above-spec = tie.close (tie.spec returns returns-2 (λ c κs. search needs) returns-3)

@@ -19,19 +19,10 @@ abbrev μ-loop : tie.MeasureT-loop
 loop-holds : tie.Need-loop-holds Inv-loop μ-loop
 loop-holds c = (omega arith, whole-one, inl refl)
 
-add-loop : tie.Need-add-loop Inv-loop μ-loop
-add-loop c = search needs
-
 returns : tie.Need-returns Inv-loop μ-loop
 returns c =
     let at = c .before .before .loop in
     found-stop _ _ _ (search needs) (c .before .loop-test .taken) (rw (← at .inv .1) (not-true _ (c .if1 .taken))) (at .inv .2)
-
-add-k : tie.Need-add-k Inv-loop μ-loop
-add-k c = search needs
-
-loop-less : tie.Need-loop-less Inv-loop μ-loop
-loop-less c = search needs
 
 loop-again : tie.Need-loop-again Inv-loop μ-loop
 loop-again c =
@@ -45,4 +36,4 @@ returns-2 c = found-end _ _ _ (c .loop-test .left) (c .before .loop .inv .2)
 pub whole-below-spec : {M : Type 1} → statement M
 whole-below-spec =
     tie.close
-    (tie.spec Inv-loop μ-loop loop-holds add-loop returns add-k loop-less loop-again returns-2)
+    (tie.spec Inv-loop μ-loop loop-holds (λ c. search needs) returns (λ c. search needs) (λ c. search needs) loop-again returns-2)

@@ -10,8 +10,5 @@ int-to-float-result : tie.Need-int-to-float-result
 unfolding inFloat
 int-to-float-result c = omega (arith, le→leb)
 
-returns : tie.Need-returns
-returns c = search needs
-
 pub whole-of-spec : {M : Type 1} → statement M
-whole-of-spec = tie.close (tie.spec int-to-float-result returns)
+whole-of-spec = tie.close (tie.spec int-to-float-result (λ c. search needs))

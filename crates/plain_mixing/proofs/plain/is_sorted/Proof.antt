@@ -13,38 +13,14 @@ Inv-loop n temps pairs i₀ i = Passed (rises temps) pairs i
 abbrev μ-loop : tie.MeasureT-loop
 μ-loop n temps pairs i₀ i = pairs - i
 
-sub-pairs : tie.Need-sub-pairs Inv-loop μ-loop
-sub-pairs c = search needs
-
 loop-holds : tie.Need-loop-holds Inv-loop μ-loop
 loop-holds c = passed-start _ _
-
-mul-if1 : tie.Need-mul-if1 Inv-loop μ-loop
-mul-if1 c = search needs
-
-element-copy-out-if1 : tie.Need-element-copy-out-if1 Inv-loop μ-loop
-element-copy-out-if1 c = search needs
-
-add-if1 : tie.Need-add-if1 Inv-loop μ-loop
-add-if1 c = search needs
-
-mul-if1-2 : tie.Need-mul-if1-2 Inv-loop μ-loop
-mul-if1-2 c = search needs
-
-element-copy-out-if1-2 : tie.Need-element-copy-out-if1-2 Inv-loop μ-loop
-element-copy-out-if1-2 c = search needs
 
 returns : tie.Need-returns Inv-loop μ-loop
 unfolding isSorted
 returns c =
     let test = c .before .before .before in
     passed-fails _ _ _ (test .loop-test .taken) (not-true _ (c .if1 .taken)) (test .before .loop .inv)
-
-add-i : tie.Need-add-i Inv-loop μ-loop
-add-i c = search needs
-
-loop-less : tie.Need-loop-less Inv-loop μ-loop
-loop-less c = search needs
 
 loop-again : tie.Need-loop-again Inv-loop μ-loop
 loop-again c =
@@ -61,15 +37,15 @@ is-sorted-spec =
     (tie.spec
     Inv-loop
     μ-loop
-    sub-pairs
+    (λ c. search needs)
     loop-holds
-    mul-if1
-    element-copy-out-if1
-    add-if1
-    mul-if1-2
-    element-copy-out-if1-2
+    (λ c. search needs)
+    (λ c. search needs)
+    (λ c. search needs)
+    (λ c. search needs)
+    (λ c. search needs)
     returns
-    add-i
-    loop-less
+    (λ c. search needs)
+    (λ c. search needs)
     loop-again
     returns-2)

@@ -17,21 +17,9 @@ Inv-loop n vol initial temps₀ first limit k₀ temps k = (k ≤ limit) × (rea
 abbrev μ-loop : tie.MeasureT-loop
 μ-loop n vol initial temps₀ first limit k₀ temps k = limit - k
 
-max-rounds-requires : tie.Need-max-rounds-requires Inv-loop μ-loop
-max-rounds-requires c κs = search needs
-
 loop-holds : tie.Need-loop-holds Inv-loop μ-loop
 unfolding rearrange
 loop-holds c = (omega arith, rw (sub-zero, c .max-rounds .ensures))
-
-mix-round-requires : tie.Need-mix-round-requires Inv-loop μ-loop
-mix-round-requires c κs = search needs
-
-add-k : tie.Need-add-k Inv-loop μ-loop
-add-k c = search needs
-
-is-sorted-requires : tie.Need-is-sorted-requires Inv-loop μ-loop
-is-sorted-requires c κs = search needs
 
 returns : tie.Need-returns Inv-loop μ-loop
 returns c =
@@ -41,9 +29,6 @@ returns c =
     let s = sym (c .before .is-sorted .ensures) ∙ c .if1 .taken in
     let e = at .inv .1 ∙ (rounds-next _ (at .k) _ _ _ _ true (test .loop-test .taken) (ran .mix-round .ensures) s ∙ rounds-sorted _ _ _ _ _) in
     (sym (ap answerOf e), sym (ap (tempsOf _) e))
-
-loop-less : tie.Need-loop-less Inv-loop μ-loop
-loop-less c = search needs
 
 loop-again : tie.Need-loop-again Inv-loop μ-loop
 loop-again c =
@@ -65,12 +50,12 @@ rearrange-plain-spec =
     (tie.spec
     Inv-loop
     μ-loop
-    max-rounds-requires
+    (λ c κs. search needs)
     loop-holds
-    mix-round-requires
-    add-k
-    is-sorted-requires
+    (λ c κs. search needs)
+    (λ c. search needs)
+    (λ c κs. search needs)
     returns
-    loop-less
+    (λ c. search needs)
     loop-again
     returns-2)

@@ -8,12 +8,9 @@ returns : tie.Need-returns
 unfolding joins
 returns c = rw (c .if1 .taken)
 
-is-narrow-close-requires : tie.Need-is-narrow-close-requires
-is-narrow-close-requires c κs = search needs
-
 returns-2 : tie.Need-returns-2
 unfolding joins
 returns-2 c = rw (c .before .if1 .left, c .is-narrow-close .ensures)
 
 pub does-join-spec : {M : Type 1} → statement M
-does-join-spec = tie.close (tie.spec returns is-narrow-close-requires returns-2)
+does-join-spec = tie.close (tie.spec returns (λ c κs. search needs) returns-2)

@@ -18,18 +18,6 @@ abbrev μ-loop : tie.MeasureT-loop
 loop-holds : tie.Need-loop-holds Inv-loop μ-loop
 loop-holds c = span-start _ _ _ _ (omega arith)
 
-mul-temps : tie.Need-mul-temps Inv-loop μ-loop
-mul-temps c = search needs
-
-element-write-temps : tie.Need-element-write-temps Inv-loop μ-loop
-element-write-temps c = search needs
-
-add-k : tie.Need-add-k Inv-loop μ-loop
-add-k c = search needs
-
-loop-less : tie.Need-loop-less Inv-loop μ-loop
-loop-less c = search needs
-
 loop-again : tie.Need-loop-again Inv-loop μ-loop
 loop-again c = span-next _ _ _ _ _ _ (c .loop-test .taken) (c .before .loop .inv)
 
@@ -43,9 +31,9 @@ fill-group-spec =
     Inv-loop
     μ-loop
     loop-holds
-    mul-temps
-    element-write-temps
-    add-k
-    loop-less
+    (λ c. search needs)
+    (λ c. search needs)
+    (λ c. search needs)
+    (λ c. search needs)
     loop-again
     returns)

@@ -13,47 +13,8 @@ Inv-loop n vol temps bottom end heat₀ volume₀ k₀ heat volume k = Rest (add
 abbrev μ-loop : tie.MeasureT-loop
 μ-loop n vol temps bottom end heat₀ volume₀ k₀ heat volume k = n - k
 
-start-requires : tie.Need-start-requires Inv-loop μ-loop
-start-requires c κs = search needs
-
-start-requires-2 : tie.Need-start-requires-2 Inv-loop μ-loop
-start-requires-2 c κs = search needs
-
 loop-holds : tie.Need-loop-holds Inv-loop μ-loop
 loop-holds c = (rest-start _ _ _, rest-start _ _ _)
-
-member-of-requires : tie.Need-member-of-requires Inv-loop μ-loop
-member-of-requires c κs = search needs
-
-mul-add-term : tie.Need-mul-add-term Inv-loop μ-loop
-mul-add-term c = search needs
-
-element-copy-out-add-term : tie.Need-element-copy-out-add-term Inv-loop μ-loop
-element-copy-out-add-term c = search needs
-
-mul-add-term-2 : tie.Need-mul-add-term-2 Inv-loop μ-loop
-mul-add-term-2 c = search needs
-
-element-copy-out-add-term-2 : tie.Need-element-copy-out-add-term-2 Inv-loop μ-loop
-element-copy-out-add-term-2 c = search needs
-
-add-term-requires : tie.Need-add-term-requires Inv-loop μ-loop
-add-term-requires c κs = search needs
-
-mul-add-term-3 : tie.Need-mul-add-term-3 Inv-loop μ-loop
-mul-add-term-3 c = search needs
-
-element-copy-out-add-term-3 : tie.Need-element-copy-out-add-term-3 Inv-loop μ-loop
-element-copy-out-add-term-3 c = search needs
-
-add-term-requires-2 : tie.Need-add-term-requires-2 Inv-loop μ-loop
-add-term-requires-2 c κs = search needs
-
-add-k : tie.Need-add-k Inv-loop μ-loop
-add-k c = search needs
-
-loop-less : tie.Need-loop-less Inv-loop μ-loop
-loop-less c = search needs
 
 loop-again : tie.Need-loop-again Inv-loop μ-loop
 loop-again c =
@@ -63,12 +24,6 @@ loop-again c =
       rw (c .before .before .add-term .ensures, member .member-of .ensures) (rest-next _ _ _ _ _ l (at .loop .inv .0)),
       rw (c .add-term2 .ensures, member .member-of .ensures) (rest-next _ _ _ _ _ l (at .loop .inv .1)),
     )
-
-total-of-requires : tie.Need-total-of-requires Inv-loop μ-loop
-total-of-requires c κs = search needs
-
-total-of-requires-2 : tie.Need-total-of-requires-2 Inv-loop μ-loop
-total-of-requires-2 c κs = search needs
 
 returns : tie.Need-returns Inv-loop μ-loop
 unfolding groupTemp
@@ -83,21 +38,21 @@ group-temp-spec =
     (tie.spec
     Inv-loop
     μ-loop
-    start-requires
-    start-requires-2
+    (λ c κs. search needs)
+    (λ c κs. search needs)
     loop-holds
-    member-of-requires
-    mul-add-term
-    element-copy-out-add-term
-    mul-add-term-2
-    element-copy-out-add-term-2
-    add-term-requires
-    mul-add-term-3
-    element-copy-out-add-term-3
-    add-term-requires-2
-    add-k
-    loop-less
+    (λ c κs. search needs)
+    (λ c. search needs)
+    (λ c. search needs)
+    (λ c. search needs)
+    (λ c. search needs)
+    (λ c κs. search needs)
+    (λ c. search needs)
+    (λ c. search needs)
+    (λ c κs. search needs)
+    (λ c. search needs)
+    (λ c. search needs)
     loop-again
-    total-of-requires
-    total-of-requires-2
+    (λ c κs. search needs)
+    (λ c κs. search needs)
     returns)

@@ -15,20 +15,8 @@ Inv-loop n vol temps₀ pairs bottom₀ i₀ temps bottom i = (bottom ≤ i) × 
 abbrev μ-loop : tie.MeasureT-loop
 μ-loop n vol temps₀ pairs bottom₀ i₀ temps bottom i = pairs - i
 
-sub-pairs : tie.Need-sub-pairs Inv-loop μ-loop
-sub-pairs c = search needs
-
 loop-holds : tie.Need-loop-holds Inv-loop μ-loop
 loop-holds c = (omega arith, rest-start _ _ _)
-
-mix-pair-requires : tie.Need-mix-pair-requires Inv-loop μ-loop
-mix-pair-requires c κs = search needs
-
-add-i : tie.Need-add-i Inv-loop μ-loop
-add-i c = search needs
-
-loop-less : tie.Need-loop-less Inv-loop μ-loop
-loop-less c = search needs
 
 loop-again : tie.Need-loop-again Inv-loop μ-loop
 loop-again c =
@@ -47,10 +35,10 @@ mix-round-spec =
     (tie.spec
     Inv-loop
     μ-loop
-    sub-pairs
+    (λ c. search needs)
     loop-holds
-    mix-pair-requires
-    add-i
-    loop-less
+    (λ c κs. search needs)
+    (λ c. search needs)
+    (λ c. search needs)
     loop-again
     returns)

@@ -19,24 +19,6 @@ abbrev μ-loop : tie.MeasureT-loop
 loop-holds : tie.Need-loop-holds Inv-loop μ-loop
 loop-holds c = (omega arith, refl)
 
-mul-temps : tie.Need-mul-temps Inv-loop μ-loop
-mul-temps c = search needs
-
-shared-slice-read-temps : tie.Need-shared-slice-read-temps Inv-loop μ-loop
-shared-slice-read-temps c = search needs
-
-mul-temps-2 : tie.Need-mul-temps-2 Inv-loop μ-loop
-mul-temps-2 c = search needs
-
-element-write-temps : tie.Need-element-write-temps Inv-loop μ-loop
-element-write-temps c = search needs
-
-add-i : tie.Need-add-i Inv-loop μ-loop
-add-i c = search needs
-
-loop-less : tie.Need-loop-less Inv-loop μ-loop
-loop-less c = search needs
-
 loop-again : tie.Need-loop-again Inv-loop μ-loop
 loop-again c =
     let test = c .before in
@@ -56,11 +38,11 @@ copy-in-spec =
     Inv-loop
     μ-loop
     loop-holds
-    mul-temps
-    shared-slice-read-temps
-    mul-temps-2
-    element-write-temps
-    add-i
-    loop-less
+    (λ c. search needs)
+    (λ c. search needs)
+    (λ c. search needs)
+    (λ c. search needs)
+    (λ c. search needs)
+    (λ c. search needs)
     loop-again
     returns)

@@ -20,32 +20,11 @@ abbrev μ-loop : tie.MeasureT-loop
 loop-holds : tie.Need-loop-holds Inv-loop μ-loop
 loop-holds c = (omega arith, refl, refl)
 
-mul-layers : tie.Need-mul-layers Inv-loop μ-loop
-mul-layers c = search needs
-
-element-copy-out-layers : tie.Need-element-copy-out-layers Inv-loop μ-loop
-element-copy-out-layers c = search needs
-
-mul-layers-2 : tie.Need-mul-layers-2 Inv-loop μ-loop
-mul-layers-2 c = search needs
-
-slice-write-layers : tie.Need-slice-write-layers Inv-loop μ-loop
-slice-write-layers c = search needs
-
-add-i : tie.Need-add-i Inv-loop μ-loop
-add-i c = search needs
-
-loop-less : tie.Need-loop-less Inv-loop μ-loop
-loop-less c = search needs
-
 loop-again : tie.Need-loop-again Inv-loop μ-loop
 loop-again c =
     let test = c .before in
     let at = test .before .loop in
     (simp length-set (omega arith), simp length-set (at .inv .1), rw (at .inv .2) (copied-next nan (at .i) _ _ (omega arith) (omega arith)))
-
-same-length : tie.Need-same-length Inv-loop μ-loop
-same-length c = search needs
 
 returns : tie.Need-returns Inv-loop μ-loop
 returns c =
@@ -60,12 +39,12 @@ copy-out-spec =
     Inv-loop
     μ-loop
     loop-holds
-    mul-layers
-    element-copy-out-layers
-    mul-layers-2
-    slice-write-layers
-    add-i
-    loop-less
+    (λ c. search needs)
+    (λ c. search needs)
+    (λ c. search needs)
+    (λ c. search needs)
+    (λ c. search needs)
+    (λ c. search needs)
     loop-again
-    same-length
+    (λ c. search needs)
     returns)

@@ -20,9 +20,6 @@ returns-2 c =
     let e : mixRefusal (start .args .layers .now) (start .args .layer-volume) ≡ 1 = rw (ne-eqb _ _ (c .before .if1 .left), lt-ltb _ _ (c .if2 .taken)) in
     mix-answered _ _ _ _ (rw e) (rw e)
 
-is-finite-above-zero-requires : tie.Need-is-finite-above-zero-requires
-is-finite-above-zero-requires c κs = search needs
-
 returns-3 : tie.Need-returns-3
 unfolding mixRefusal
 returns-3 c =
@@ -30,12 +27,6 @@ returns-3 c =
     let start = second .before .before .before in
     let e : mixRefusal (start .args .layers .now) (start .args .layer-volume) ≡ 3 = rw (ne-eqb _ _ (second .before .if1 .left), le-ltb _ _ (second .if2 .left), ← c .before .is-finite-above-zero .ensures, not-true (c .before .is-finite-above-zero .result) (c .if3 .taken)) in
     mix-answered _ _ _ _ (rw e) (rw e)
-
-mix-array-requires : tie.Need-mix-array-requires
-mix-array-requires c κs = search needs
-
-same-length : tie.Need-same-length
-same-length c = search needs
 
 returns-4 : tie.Need-returns-4
 unfolding mixRefusal
@@ -52,8 +43,8 @@ mix-spec =
     (tie.spec
     returns
     returns-2
-    is-finite-above-zero-requires
+    (λ c κs. search needs)
     returns-3
-    mix-array-requires
-    same-length
+    (λ c κs. search needs)
+    (λ c. search needs)
     returns-4)

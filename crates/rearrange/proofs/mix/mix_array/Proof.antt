@@ -34,22 +34,10 @@ worked c =
     let filled = c .before .before .before .copy-in .ensures in
     (rw filled at (e .0) ∙ array-answer (volumes c) (layers c) (zeros c) (size c), rw filled at (e .1))
 
-copy-in-requires : tie.Need-copy-in-requires
-copy-in-requires c κs = search needs
-
-rearrange-temperatures-requires : tie.Need-rearrange-temperatures-requires
-rearrange-temperatures-requires c κs = search needs
-
-enum-told : tie.Need-enum-told
-enum-told c = search needs
-
 copy-out-requires : tie.Need-copy-out-requires
 copy-out-requires c κs =
     let ran = c .before .before .before .before in
     (search needs, ap length (worked ran .1) ∙ (rearrange-length _ _ _ ∙ (length-append (layers ran) (zeros ran) ∙ simp (length-drop, length-replicate) (omega arith))))
-
-same-length : tie.Need-same-length
-same-length c = search needs
 
 returns : tie.Need-returns
 returns c =
@@ -58,12 +46,6 @@ returns c =
       worked ran .0,
       c .before .before .copy-out .ensures ∙ rw (worked ran .1) (array-accepted (volumes ran) (layers ran) (zeros ran) (size ran) _ (sym (worked ran .0) ∙ told .enum-told .given .1)),
     )
-
-enum-told-2 : tie.Need-enum-told-2
-enum-told-2 c = search needs
-
-same-length-2 : tie.Need-same-length-2
-same-length-2 c = search needs
 
 returns-2 : tie.Need-returns-2
 returns-2 c =
@@ -74,12 +56,12 @@ pub mix-array-spec : {M : Type 1} → statement M
 mix-array-spec =
     tie.close
     (tie.spec
-    copy-in-requires
-    rearrange-temperatures-requires
-    enum-told
+    (λ c κs. search needs)
+    (λ c κs. search needs)
+    (λ c. search needs)
     copy-out-requires
-    same-length
+    (λ c. search needs)
     returns
-    enum-told-2
-    same-length-2
+    (λ c. search needs)
+    (λ c. search needs)
     returns-2)

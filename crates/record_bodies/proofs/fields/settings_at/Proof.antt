@@ -20,27 +20,6 @@ loop-holds : tie.Need-loop-holds Inv-loop μ-loop
 unfolding tabulate
 loop-holds c = (omega arith, refl)
 
-mul-points-at : tie.Need-mul-points-at Inv-loop μ-loop
-mul-points-at c = search needs
-
-add-points-at : tie.Need-add-points-at Inv-loop μ-loop
-add-points-at c = search needs
-
-points-at-requires : tie.Need-points-at-requires Inv-loop μ-loop
-points-at-requires c κs = search needs
-
-mul-settings : tie.Need-mul-settings Inv-loop μ-loop
-mul-settings c = search needs
-
-array-set-from-settings : tie.Need-array-set-from-settings Inv-loop μ-loop
-array-set-from-settings c = search needs
-
-add-k : tie.Need-add-k Inv-loop μ-loop
-add-k c = search needs
-
-loop-less : tie.Need-loop-less Inv-loop μ-loop
-loop-less c = search needs
-
 loop-again : tie.Need-loop-again Inv-loop μ-loop
 loop-again c = (omega arith, rw (c .points-at .ensures, c .before .before .loop .inv .1) (filled-next (settingAt (c .before .before .before .before .args .s .now) (c .before .before .before .before .args .at)) noSetting (c .before .before .loop .k) noSettings (omega arith)))
 
@@ -57,12 +36,12 @@ settings-at-spec =
     Inv-loop
     μ-loop
     loop-holds
-    mul-points-at
-    add-points-at
-    points-at-requires
-    mul-settings
-    array-set-from-settings
-    add-k
-    loop-less
+    (λ c. search needs)
+    (λ c. search needs)
+    (λ c κs. search needs)
+    (λ c. search needs)
+    (λ c. search needs)
+    (λ c. search needs)
+    (λ c. search needs)
     loop-again
     returns)

@@ -21,27 +21,6 @@ loop-holds : tie.Need-loop-holds Inv-loop μ-loop
 unfolding tabulate
 loop-holds c = (omega arith, refl)
 
-mul-f64-at : tie.Need-mul-f64-at Inv-loop μ-loop
-mul-f64-at c = search needs
-
-add-f64-at : tie.Need-add-f64-at Inv-loop μ-loop
-add-f64-at c = search needs
-
-f64-at-requires : tie.Need-f64-at-requires Inv-loop μ-loop
-f64-at-requires c κs = search needs
-
-mul-volumes : tie.Need-mul-volumes Inv-loop μ-loop
-mul-volumes c = search needs
-
-array-write-volumes : tie.Need-array-write-volumes Inv-loop μ-loop
-array-write-volumes c = search needs
-
-add-i : tie.Need-add-i Inv-loop μ-loop
-add-i c = search needs
-
-loop-less : tie.Need-loop-less Inv-loop μ-loop
-loop-less c = search needs
-
 loop-again : tie.Need-loop-again Inv-loop μ-loop
 loop-again c = (omega arith, rw (c .f64-at .ensures, c .before .before .loop .inv .1) (filled-next (λ (j : ℕ). doubleAt (c .before .before .before .before .args .s .now) (c .before .before .before .before .args .at + 8 * j)) nan (c .before .before .loop .i) noVolumes (omega arith)))
 
@@ -58,12 +37,12 @@ volumes-at-spec =
     Inv-loop
     μ-loop
     loop-holds
-    mul-f64-at
-    add-f64-at
-    f64-at-requires
-    mul-volumes
-    array-write-volumes
-    add-i
-    loop-less
+    (λ c. search needs)
+    (λ c. search needs)
+    (λ c κs. search needs)
+    (λ c. search needs)
+    (λ c. search needs)
+    (λ c. search needs)
+    (λ c. search needs)
     loop-again
     returns)

@@ -5,48 +5,21 @@ use borrow.Author.Needs.{needs}
 use Rattle.record_bodies.proofs.kinds.heater_at.Statement.{statement}
 use Rattle.record_bodies.proofs.kinds.heater_at.Tie as tie
 
-refused-requires : tie.Need-refused-requires
-refused-requires c κs = search needs
-
 returns : tie.Need-returns
 unfolding heaterAt
 returns c = rw (← c .before .before .before .pre .1, ne-eqb _ _ (c .before .if1 .taken)) (c .refused .ensures)
-
-refused-requires-2 : tie.Need-refused-requires-2
-refused-requires-2 c κs = search needs
 
 returns-2 : tie.Need-returns-2
 unfolding heaterAt
 returns-2 c = rw (← c .before .before .before .before .pre .1, eq-eqb _ _ (c .before .before .if1 .left), not-true (c .before .before .before .before .args .tank) (c .before .if2 .taken)) (c .refused2 .ensures)
 
-refused-requires-3 : tie.Need-refused-requires-3
-refused-requires-3 c κs = search needs
-
 returns-3 : tie.Need-returns-3
 unfolding heaterAt
 returns-3 c = rw (← c .before .before .before .before .before .pre .1, eq-eqb _ _ (c .before .before .before .if1 .left), not-false (c .before .before .before .before .before .args .tank) (c .before .before .if2 .left), c .before .if3 .taken) (c .refused3 .ensures)
 
-add-presence : tie.Need-add-presence
-add-presence c = search needs
-
-shared-slice-read-presence : tie.Need-shared-slice-read-presence
-shared-slice-read-presence c = search needs
-
-refused-requires-4 : tie.Need-refused-requires-4
-refused-requires-4 c κs = search needs
-
 returns-4 : tie.Need-returns-4
 unfolding heaterAt
 returns-4 c = rw (← c .before .before .before .before .before .before .before .pre .1, eq-eqb _ _ (c .before .before .before .before .before .if1 .left), not-false (c .before .before .before .before .before .before .before .args .tank) (c .before .before .before .before .if2 .left), c .before .before .before .if3 .left, lt-leb _ _ (c .before .if4 .taken)) (c .refused4 .ensures)
-
-heater-record-requires : tie.Need-heater-record-requires
-heater-record-requires c κs = search needs
-
-add-plain : tie.Need-add-plain
-add-plain c = search needs
-
-plain-requires : tie.Need-plain-requires
-plain-requires c κs = search needs
 
 returns-5 : tie.Need-returns-5
 unfolding heaterAt
@@ -56,17 +29,17 @@ pub heater-at-spec : {M : Type 1} → statement M
 heater-at-spec =
     tie.close
     (tie.spec
-    refused-requires
+    (λ c κs. search needs)
     returns
-    refused-requires-2
+    (λ c κs. search needs)
     returns-2
-    refused-requires-3
+    (λ c κs. search needs)
     returns-3
-    add-presence
-    shared-slice-read-presence
-    refused-requires-4
+    (λ c. search needs)
+    (λ c. search needs)
+    (λ c κs. search needs)
     returns-4
-    heater-record-requires
-    add-plain
-    plain-requires
+    (λ c κs. search needs)
+    (λ c. search needs)
+    (λ c κs. search needs)
     returns-5)

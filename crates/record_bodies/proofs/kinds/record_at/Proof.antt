@@ -5,24 +5,6 @@ use borrow.Author.Needs.{needs}
 use Rattle.record_bodies.proofs.kinds.record_at.Statement.{statement}
 use Rattle.record_bodies.proofs.kinds.record_at.Tie as tie
 
-add-u16-at : tie.Need-add-u16-at
-add-u16-at c = search needs
-
-u16-at-requires : tie.Need-u16-at-requires
-u16-at-requires c κs = search needs
-
-tank-at-requires : tie.Need-tank-at-requires
-tank-at-requires c κs = search needs
-
-heater-at-requires : tie.Need-heater-at-requires
-heater-at-requires c κs = search needs
-
-step-at-requires : tie.Need-step-at-requires
-step-at-requires c κs = search needs
-
-refused-requires : tie.Need-refused-requires
-refused-requires c κs = search needs
-
 returns : tie.Need-returns
 unfolding byKind
 returns c = rw (← c .before .before .u16-at .ensures, c .before .match .keys1) (c .tank-at .ensures)
@@ -43,12 +25,12 @@ pub record-at-spec : {M : Type 1} → statement M
 record-at-spec =
     tie.close
     (tie.spec
-    add-u16-at
-    u16-at-requires
-    tank-at-requires
-    heater-at-requires
-    step-at-requires
-    refused-requires
+    (λ c. search needs)
+    (λ c κs. search needs)
+    (λ c κs. search needs)
+    (λ c κs. search needs)
+    (λ c κs. search needs)
+    (λ c κs. search needs)
     returns
     returns-2
     returns-3

@@ -9,12 +9,9 @@ returns : tie.Need-returns
 unfolding stepVolumesAt
 returns c = rw (lt-leb _ _ (c .if1 .taken))
 
-volumes-at-requires : tie.Need-volumes-at-requires
-volumes-at-requires c κs = search needs
-
 returns-2 : tie.Need-returns-2
 unfolding stepVolumesAt
 returns-2 c = rw (le-leb _ _ (c .before .if1 .left)) (c .volumes-at .ensures)
 
 pub step-volumes-spec : {M : Type 1} → statement M
-step-volumes-spec = tie.close (tie.spec returns volumes-at-requires returns-2)
+step-volumes-spec = tie.close (tie.spec returns (λ c κs. search needs) returns-2)

@@ -31,61 +31,22 @@ Inv-filling n vol feed temps₀ held₀ mixes₀ kept₀ i₀ temps held mixes k
 abbrev μ-filling : tie.MeasureT-filling
 μ-filling n vol feed temps₀ held₀ mixes₀ kept₀ i₀ temps held mixes kept i = i
 
-keep-filling-requires : tie.Need-keep-filling-requires Inv-donors μ-donors Inv-filling μ-filling
-keep-filling-requires c κs = search needs
-
 filling-holds : tie.Need-filling-holds Inv-donors μ-donors Inv-filling μ-filling
 filling-holds c = (record { descent = descent-start _ _ _ _; same = λ k l. refl }, c .keep-filling .ensures)
-
-sub-i : tie.Need-sub-i Inv-donors μ-donors Inv-filling μ-filling
-sub-i c = search needs
-
-is-over-full-requires : tie.Need-is-over-full-requires Inv-donors μ-donors Inv-filling μ-filling
-is-over-full-requires c κs = search needs
-
-mul-temps : tie.Need-mul-temps Inv-donors μ-donors Inv-filling μ-filling
-mul-temps c = search needs
-
-element-copy-out-temps : tie.Need-element-copy-out-temps Inv-donors μ-donors Inv-filling μ-filling
-element-copy-out-temps c = search needs
 
 sub-temps : tie.Need-sub-temps Inv-donors μ-donors Inv-filling μ-filling
 sub-temps c =
     let first = c .before .before in
     omega (arith, first .before .is-over-full .ensures (first .if1 .taken) .there)
 
-mul-temps-2 : tie.Need-mul-temps-2 Inv-donors μ-donors Inv-filling μ-filling
-mul-temps-2 c = search needs
-
 element-copy-out-temps-2 :
     tie.Need-element-copy-out-temps-2 Inv-donors μ-donors Inv-filling μ-filling
 element-copy-out-temps-2 c = search needs
-
-mul-temps-3 : tie.Need-mul-temps-3 Inv-donors μ-donors Inv-filling μ-filling
-mul-temps-3 c = search needs
-
-element-write-temps : tie.Need-element-write-temps Inv-donors μ-donors Inv-filling μ-filling
-element-write-temps c = search needs
 
 sub-held : tie.Need-sub-held Inv-donors μ-donors Inv-filling μ-filling
 sub-held c =
     let first = c .before .before .before .before .before in
     omega (arith, first .before .is-over-full .ensures (first .if1 .taken) .there)
-
-mul-held : tie.Need-mul-held Inv-donors μ-donors Inv-filling μ-filling
-mul-held c = search needs
-
-element-write-held : tie.Need-element-write-held Inv-donors μ-donors Inv-filling μ-filling
-element-write-held c = search needs
-
-mul-held-2 : tie.Need-mul-held-2 Inv-donors μ-donors Inv-filling μ-filling
-mul-held-2 c = search needs
-
-element-write-held-2 : tie.Need-element-write-held-2 Inv-donors μ-donors Inv-filling μ-filling
-element-write-held-2 c = search needs
-
-filling-less : tie.Need-filling-less Inv-donors μ-donors Inv-filling μ-filling
-filling-less c = search needs
 
 filling-again : tie.Need-filling-again Inv-donors μ-donors Inv-filling μ-filling
 filling-again c =
@@ -98,48 +59,24 @@ filling-again c =
       λ e. repeats-next _ _ _ (at .kept) over,
     )
 
-mul-start-filling : tie.Need-mul-start-filling Inv-donors μ-donors Inv-filling μ-filling
-mul-start-filling c = search needs
-
 element-copy-out-start-filling :
     tie.Need-element-copy-out-start-filling Inv-donors μ-donors Inv-filling μ-filling
 element-copy-out-start-filling c = search needs
-
-mul-start-filling-2 : tie.Need-mul-start-filling-2 Inv-donors μ-donors Inv-filling μ-filling
-mul-start-filling-2 c = search needs
 
 element-copy-out-start-filling-2 :
     tie.Need-element-copy-out-start-filling-2 Inv-donors μ-donors Inv-filling μ-filling
 element-copy-out-start-filling-2 c = search needs
 
-mul-start-filling-3 : tie.Need-mul-start-filling-3 Inv-donors μ-donors Inv-filling μ-filling
-mul-start-filling-3 c = search needs
-
 element-copy-out-start-filling-3 :
     tie.Need-element-copy-out-start-filling-3 Inv-donors μ-donors Inv-filling μ-filling
 element-copy-out-start-filling-3 c = search needs
 
-start-filling-requires : tie.Need-start-filling-requires Inv-donors μ-donors Inv-filling μ-filling
-start-filling-requires c κs = search needs
-
-is-no-volume-requires : tie.Need-is-no-volume-requires Inv-donors μ-donors Inv-filling μ-filling
-is-no-volume-requires c κs = search needs
-
 donors-holds : tie.Need-donors-holds Inv-donors μ-donors Inv-filling μ-filling
 donors-holds c = descent-start _ _ _ _
-
-sub-j : tie.Need-sub-j Inv-donors μ-donors Inv-filling μ-filling
-sub-j c = search needs
 
 is-no-volume-requires-2 :
     tie.Need-is-no-volume-requires-2 Inv-donors μ-donors Inv-filling μ-filling
 is-no-volume-requires-2 c κs = search needs
-
-take-from-requires : tie.Need-take-from-requires Inv-donors μ-donors Inv-filling μ-filling
-take-from-requires c κs = search needs
-
-donors-less : tie.Need-donors-less Inv-donors μ-donors Inv-filling μ-filling
-donors-less c = search needs
 
 donors-again : tie.Need-donors-again Inv-donors μ-donors Inv-filling μ-filling
 donors-again c =
@@ -155,24 +92,9 @@ take-from-feed-requires :
     tie.Need-take-from-feed-requires Inv-donors μ-donors Inv-filling μ-filling
 take-from-feed-requires c κs = search needs
 
-mul-temps-4 : tie.Need-mul-temps-4 Inv-donors μ-donors Inv-filling μ-filling
-mul-temps-4 c = search needs
-
-element-write-temps-2 : tie.Need-element-write-temps-2 Inv-donors μ-donors Inv-filling μ-filling
-element-write-temps-2 c = search needs
-
-mul-held-3 : tie.Need-mul-held-3 Inv-donors μ-donors Inv-filling μ-filling
-mul-held-3 c = search needs
-
-element-write-held-3 : tie.Need-element-write-held-3 Inv-donors μ-donors Inv-filling μ-filling
-element-write-held-3 c = search needs
-
 keep-filling-requires-2 :
     tie.Need-keep-filling-requires-2 Inv-donors μ-donors Inv-filling μ-filling
 keep-filling-requires-2 c κs = search needs
-
-filling-less-2 : tie.Need-filling-less-2 Inv-donors μ-donors Inv-filling μ-filling
-filling-less-2 c = search needs
 
 filling-again-2 : tie.Need-filling-again-2 Inv-donors μ-donors Inv-filling μ-filling
 filling-again-2 c =
@@ -223,46 +145,46 @@ calc-temps-after-extraction-spec =
     μ-donors
     Inv-filling
     μ-filling
-    keep-filling-requires
+    (λ c κs. search needs)
     filling-holds
-    sub-i
-    is-over-full-requires
-    mul-temps
-    element-copy-out-temps
+    (λ c. search needs)
+    (λ c κs. search needs)
+    (λ c. search needs)
+    (λ c. search needs)
     sub-temps
-    mul-temps-2
+    (λ c. search needs)
     element-copy-out-temps-2
-    mul-temps-3
-    element-write-temps
+    (λ c. search needs)
+    (λ c. search needs)
     sub-held
-    mul-held
-    element-write-held
-    mul-held-2
-    element-write-held-2
-    filling-less
+    (λ c. search needs)
+    (λ c. search needs)
+    (λ c. search needs)
+    (λ c. search needs)
+    (λ c. search needs)
     filling-again
-    mul-start-filling
+    (λ c. search needs)
     element-copy-out-start-filling
-    mul-start-filling-2
+    (λ c. search needs)
     element-copy-out-start-filling-2
-    mul-start-filling-3
+    (λ c. search needs)
     element-copy-out-start-filling-3
-    start-filling-requires
-    is-no-volume-requires
+    (λ c κs. search needs)
+    (λ c κs. search needs)
     donors-holds
-    sub-j
+    (λ c. search needs)
     is-no-volume-requires-2
-    take-from-requires
-    donors-less
+    (λ c κs. search needs)
+    (λ c. search needs)
     donors-again
     does-enter-warmer-requires
     take-from-feed-requires
-    mul-temps-4
-    element-write-temps-2
-    mul-held-3
-    element-write-held-3
+    (λ c. search needs)
+    (λ c. search needs)
+    (λ c. search needs)
+    (λ c. search needs)
     keep-filling-requires-2
-    filling-less-2
+    (λ c. search needs)
     filling-again-2
     returns
     returns-2)

@@ -5,12 +5,6 @@ use borrow.Author.Needs.{needs}
 use Rattle.running_group.proofs.round.end_group.Statement.{statement}
 use Rattle.running_group.proofs.round.end_group.Tie as tie
 
-add-if1 : tie.Need-add-if1
-add-if1 c = search needs
-
-fill-group-requires : tie.Need-fill-group-requires
-fill-group-requires c κs = search needs
-
 returns : tie.Need-returns
 returns c = (λ e. absurd (omega arith), λ l. c .fill-group .ensures)
 
@@ -18,4 +12,4 @@ returns-2 : tie.Need-returns-2
 returns-2 c = (λ e. refl, λ l. absurd (omega arith))
 
 pub end-group-spec : {M : Type 1} → statement M
-end-group-spec = tie.close (tie.spec add-if1 fill-group-requires returns returns-2)
+end-group-spec = tie.close (tie.spec (λ c. search needs) (λ c κs. search needs) returns returns-2)

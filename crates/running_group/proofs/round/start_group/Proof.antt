@@ -11,12 +11,6 @@ use borrow.Author.Needs.{needs}
 use Rattle.running_group.proofs.round.start_group.Statement.{statement}
 use Rattle.running_group.proofs.round.start_group.Tie as tie
 
-one-term-requires : tie.Need-one-term-requires
-one-term-requires c κs = search needs
-
-one-term-requires-2 : tie.Need-one-term-requires-2
-one-term-requires-2 c κs = search needs
-
 returns : tie.Need-returns
 returns c =
     let a = c .before .before in
@@ -36,4 +30,4 @@ returns c =
     }
 
 pub start-group-spec : {M : Type 1} → statement M
-start-group-spec = tie.close (tie.spec one-term-requires one-term-requires-2 returns)
+start-group-spec = tie.close (tie.spec (λ c κs. search needs) (λ c κs. search needs) returns)

@@ -22,45 +22,15 @@ Inv-loop n vol temps₀ pairs r₀ i₀ temps r i = (i ≤ pairs) × (r .bottom 
 abbrev μ-loop : tie.MeasureT-loop
 μ-loop n vol temps₀ pairs r₀ i₀ temps r i = pairs - i
 
-sub-pairs : tie.Need-sub-pairs Inv-loop μ-loop
-sub-pairs c = search needs
-
-element-copy-out-start-group : tie.Need-element-copy-out-start-group Inv-loop μ-loop
-element-copy-out-start-group c = search needs
-
-element-copy-out-start-group-2 : tie.Need-element-copy-out-start-group-2 Inv-loop μ-loop
-element-copy-out-start-group-2 c = search needs
-
-start-group-requires : tie.Need-start-group-requires Inv-loop μ-loop
-start-group-requires c κs = search needs
-
 loop-holds : tie.Need-loop-holds Inv-loop μ-loop
 loop-holds c =
     let bottom = c .start-group .ensures .bottom-is in
     (omega arith, omega arith, follows-start _ _ _ (c .start-group .result) (omega arith) (rw minus-infinity at (c .start-group .ensures)))
 
-run-pair-requires : tie.Need-run-pair-requires Inv-loop μ-loop
-run-pair-requires c κs = search needs
-
-add-i : tie.Need-add-i Inv-loop μ-loop
-add-i c = search needs
-
-loop-less : tie.Need-loop-less Inv-loop μ-loop
-loop-less c = search needs
-
 loop-again : tie.Need-loop-again Inv-loop μ-loop
 loop-again c =
     let at = c .before .before .before .loop in
     (omega arith, c .run-pair .ensures .0, c .run-pair .ensures .1 _ _ (omega arith) (at .inv .2))
-
-end-group-requires : tie.Need-end-group-requires Inv-loop μ-loop
-end-group-requires c κs = search needs
-
-is-finite-requires : tie.Need-is-finite-requires Inv-loop μ-loop
-is-finite-requires c κs = search needs
-
-is-still-sorted-requires : tie.Need-is-still-sorted-requires Inv-loop μ-loop
-is-still-sorted-requires c κs = search needs
 
 returns : tie.Need-returns Inv-loop μ-loop
 returns c = λ finite.
@@ -74,16 +44,16 @@ try-round-spec =
     (tie.spec
     Inv-loop
     μ-loop
-    sub-pairs
-    element-copy-out-start-group
-    element-copy-out-start-group-2
-    start-group-requires
+    (λ c. search needs)
+    (λ c. search needs)
+    (λ c. search needs)
+    (λ c κs. search needs)
     loop-holds
-    run-pair-requires
-    add-i
-    loop-less
+    (λ c κs. search needs)
+    (λ c. search needs)
+    (λ c. search needs)
     loop-again
-    end-group-requires
-    is-finite-requires
-    is-still-sorted-requires
+    (λ c κs. search needs)
+    (λ c κs. search needs)
+    (λ c κs. search needs)
     returns)

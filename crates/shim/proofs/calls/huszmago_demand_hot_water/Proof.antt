@@ -5,24 +5,6 @@ use borrow.Author.Needs.{needs}
 use Rattle.shim.proofs.calls.huszmago_demand_hot_water.Statement.{statement}
 use Rattle.shim.proofs.calls.huszmago_demand_hot_water.Tie as tie
 
-tank-in-requires : tie.Need-tank-in-requires
-tank-in-requires c κs = search needs
-
-report-in-requires : tie.Need-report-in-requires
-report-in-requires c κs = search needs
-
-step-in-requires : tie.Need-step-in-requires
-step-in-requires c κs = search needs
-
-demand-hot-water-requires : tie.Need-demand-hot-water-requires
-demand-hot-water-requires c κs = search needs
-
-put-tank-requires : tie.Need-put-tank-requires
-put-tank-requires c κs = search needs
-
-put-report-requires : tie.Need-put-report-requires
-put-report-requires c κs = search needs
-
 returns : tie.Need-returns
 returns c =
     let tank = c .before .before .before .before .before .before in
@@ -40,10 +22,10 @@ pub huszmago-demand-hot-water-spec : {M : Type 1} → statement M
 huszmago-demand-hot-water-spec =
     tie.close
     (tie.spec
-    tank-in-requires
-    report-in-requires
-    step-in-requires
-    demand-hot-water-requires
-    put-tank-requires
-    put-report-requires
+    (λ c κs. search needs)
+    (λ c κs. search needs)
+    (λ c κs. search needs)
+    (λ c κs. search needs)
+    (λ c κs. search needs)
+    (λ c κs. search needs)
     returns)

@@ -5,15 +5,6 @@ use borrow.Author.Needs.{needs}
 use Rattle.shim.proofs.calls.huszmago_make.Statement.{statement}
 use Rattle.shim.proofs.calls.huszmago_make.Tie as tie
 
-design-in-requires : tie.Need-design-in-requires
-design-in-requires c κs = search needs
-
-new-requires : tie.Need-new-requires
-new-requires c κs = search needs
-
-put-tank-requires : tie.Need-put-tank-requires
-put-tank-requires c κs = search needs
-
 returns : tie.Need-returns
 returns c =
     let ran = c .before .before .before .before .before .before .before .before in
@@ -21,4 +12,4 @@ returns c =
     record { number-is = ap (λ x. x .number) a; tank-written = rw (← a) (c .put-tank .ensures) }
 
 pub huszmago-make-spec : {M : Type 1} → statement M
-huszmago-make-spec = tie.close (tie.spec design-in-requires new-requires put-tank-requires returns)
+huszmago-make-spec = tie.close (tie.spec (λ c κs. search needs) (λ c κs. search needs) (λ c κs. search needs) returns)

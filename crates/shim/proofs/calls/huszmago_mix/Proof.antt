@@ -5,18 +5,6 @@ use borrow.Author.Needs.{needs}
 use Rattle.shim.proofs.calls.huszmago_mix.Statement.{statement}
 use Rattle.shim.proofs.calls.huszmago_mix.Tie as tie
 
-mix-requires : tie.Need-mix-requires
-mix-requires c κs = search needs
-
-rounds-of-requires : tie.Need-rounds-of-requires
-rounds-of-requires c κs = search needs
-
-number-of-requires : tie.Need-number-of-requires
-number-of-requires c κs = search needs
-
-same-length : tie.Need-same-length
-same-length c = search needs
-
 returns : tie.Need-returns
 returns c =
     let m = c .before .before .before .before .before .mix .ensures in
@@ -24,4 +12,4 @@ returns c =
 
 pub huszmago-mix-spec : {M : Type 1} → statement M
 huszmago-mix-spec =
-    tie.close (tie.spec mix-requires rounds-of-requires number-of-requires same-length returns)
+    tie.close (tie.spec (λ c κs. search needs) (λ c κs. search needs) (λ c κs. search needs) (λ c. search needs) returns)

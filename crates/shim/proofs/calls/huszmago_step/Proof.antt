@@ -10,48 +10,6 @@ use borrow.Author.Needs.{needs}
 use Rattle.shim.proofs.calls.huszmago_step.Statement.{statement}
 use Rattle.shim.proofs.calls.huszmago_step.Tie as tie
 
-lengths-told-requires : tie.Need-lengths-told-requires
-lengths-told-requires c κs = search needs
-
-element-copy-out-t37 : tie.Need-element-copy-out-t37
-element-copy-out-t37 c = search needs
-
-element-copy-out-t40 : tie.Need-element-copy-out-t40
-element-copy-out-t40 c = search needs
-
-element-copy-out-t43 : tie.Need-element-copy-out-t43
-element-copy-out-t43 c = search needs
-
-element-copy-out-t46 : tie.Need-element-copy-out-t46
-element-copy-out-t46 c = search needs
-
-element-copy-out-t49 : tie.Need-element-copy-out-t49
-element-copy-out-t49 c = search needs
-
-element-copy-out-t52 : tie.Need-element-copy-out-t52
-element-copy-out-t52 c = search needs
-
-element-copy-out-t55 : tie.Need-element-copy-out-t55
-element-copy-out-t55 c = search needs
-
-flags-in-requires : tie.Need-flags-in-requires
-flags-in-requires c κs = search needs
-
-present-in-requires : tie.Need-present-in-requires
-present-in-requires c κs = search needs
-
-flags-in-requires-2 : tie.Need-flags-in-requires-2
-flags-in-requires-2 c κs = search needs
-
-element-copy-out-t37-2 : tie.Need-element-copy-out-t37-2
-element-copy-out-t37-2 c = search needs
-
-element-copy-out-t65 : tie.Need-element-copy-out-t65
-element-copy-out-t65 c = search needs
-
-element-copy-out-t68 : tie.Need-element-copy-out-t68
-element-copy-out-t68 c = search needs
-
 work-step-requires : tie.Need-work-step-requires
 work-step-requires c κs = record { figures-zero = refl; flags-zero = refl; rounds-zero = refl }
 
@@ -65,15 +23,6 @@ returns c =
     let a = stepIn (i .feed) (i .asked .now) (i .volumes .now) (i .present .now) (i .points .now) in
     let worked = rw (c .before .before .before .before .before .before .before .before .before .before .before .before .before .before .before .before .before .before .before .before .before .flags-in .ensures, c .before .before .before .before .before .before .before .before .before .before .before .before .before .before .before .before .before .before .before .present-in .ensures, c .before .before .before .before .before .before .before .before .before .before .before .before .before .before .before .before .flags-in2 .ensures) at (w .ensures .0) in
     refused-left (i .counts .now) (i .numbers .now) (i .temps .now) (i .heaters .now) (i .thermostats .now) (i .flags .now) (l .0) (l .1) (l .2) (i .totals .now) (i .figures .now) (i .line-flags .now) (i .rounds .now) (l .3) (l .4) (l .5) a _ (ap (λ (x : Stepped). x .number) (step-refuses t r a (w .result) _ _ _ _ worked (c .if1 .taken))) (c .if1 .taken)
-
-bytes-of-requires : tie.Need-bytes-of-requires
-bytes-of-requires c κs = search needs
-
-totals-of-requires : tie.Need-totals-of-requires
-totals-of-requires c κs = search needs
-
-bytes-of-requires-2 : tie.Need-bytes-of-requires-2
-bytes-of-requires-2 c κs = search needs
 
 returns-2 : tie.Need-returns-2
 returns-2 c =
@@ -91,23 +40,23 @@ pub huszmago-step-spec : {M : Type 1} → statement M
 huszmago-step-spec =
     tie.close
     (tie.spec
-    lengths-told-requires
-    element-copy-out-t37
-    element-copy-out-t40
-    element-copy-out-t43
-    element-copy-out-t46
-    element-copy-out-t49
-    element-copy-out-t52
-    element-copy-out-t55
-    flags-in-requires
-    present-in-requires
-    flags-in-requires-2
-    element-copy-out-t37-2
-    element-copy-out-t65
-    element-copy-out-t68
+    (λ c κs. search needs)
+    (λ c. search needs)
+    (λ c. search needs)
+    (λ c. search needs)
+    (λ c. search needs)
+    (λ c. search needs)
+    (λ c. search needs)
+    (λ c. search needs)
+    (λ c κs. search needs)
+    (λ c κs. search needs)
+    (λ c κs. search needs)
+    (λ c. search needs)
+    (λ c. search needs)
+    (λ c. search needs)
     work-step-requires
     returns
-    bytes-of-requires
-    totals-of-requires
-    bytes-of-requires-2
+    (λ c κs. search needs)
+    (λ c κs. search needs)
+    (λ c κs. search needs)
     returns-2)

@@ -12,12 +12,6 @@ use borrow.Author.Needs.{needs}
 use Rattle.step_work.proofs.work.work_step.Statement.{statement}
 use Rattle.step_work.proofs.work.work_step.Tie as tie
 
-lent-refusal-requires : tie.Need-lent-refusal-requires
-lent-refusal-requires c κs = search needs
-
-refused-requires : tie.Need-refused-requires
-refused-requires c κs = search needs
-
 returns : tie.Need-returns
 returns c =
     let i = c .before .before .before .before .args in
@@ -35,9 +29,6 @@ layer-volumes-requires c κs =
     let passed = sym (c .before .before .lent-refusal .ensures (i .on .now)) ∙ c .before .if1 .left in
     step-counts (i .q .cylinder) (i .q .heaters) (fittedIn (i .heaters .now) (i .thermostats .now)) st a passed .1
 
-no-totals-requires : tie.Need-no-totals-requires
-no-totals-requires c κs = search needs
-
 draw-events-requires : tie.Need-draw-events-requires
 draw-events-requires c κs =
     let i = c .before .before .before .before .before .before .before .before .args in
@@ -47,9 +38,6 @@ draw-events-requires c κs =
     let passed = sym (c .before .before .before .before .before .before .lent-refusal .ensures (i .on .now)) ∙ c .before .before .before .before .before .if1 .left in
     let n = step-counts (i .q .cylinder) (i .q .heaters) (fittedIn (i .heaters .now) (i .thermostats .now)) st a passed in
     (n .0, n .1, n .3)
-
-refused-requires-2 : tie.Need-refused-requires-2
-refused-requires-2 c κs = search needs
 
 returns-2 : tie.Need-returns-2
 returns-2 c =
@@ -82,9 +70,6 @@ heat-turns-requires c κs =
     let n = step-counts (i .q .cylinder) (i .q .heaters) (fittedIn (i .heaters .now) (i .thermostats .now)) st a passed in
     (record { some-layers = n .0; few-layers = n .1; few-heaters = n .2 }, zeros-hold _ _ _ (c .before .before .before .before .before .before .before .before .before .before .before .before .before .before .before .before .before .before .before .before .before .before .before .pre))
 
-refused-requires-3 : tie.Need-refused-requires-3
-refused-requires-3 c κs = search needs
-
 returns-3 : tie.Need-returns-3
 returns-3 c =
     let i = c .before .before .before .before .before .before .before .before .before .before .before .before .before .before .before .before .before .before .before .before .before .before .before .before .before .before .before .args in
@@ -97,12 +82,6 @@ returns-3 c =
     let zeros = zeros-unheated _ (i .on .now) (i .figures .now) (i .flags .now) (i .rounds .now) (c .before .before .before .before .before .before .before .before .before .before .before .before .before .before .before .before .before .before .before .before .before .before .before .before .before .before .before .pre) in
     let heated = start-with _ _ _ _ _ _ _ _ _ zeros ∙ (rw (c .before .before .before .before .before .before .before .before .before .before .before .before .before .before .before .before .before .before .before .before .before .before .layer-volumes .ensures) at (c .before .before .before .heat-turns .ensures .0)) in
     (heated-refused f st a passed _ d drawn (c .before .before .before .before .before .before .before .before .before .before .before .before .before .before .before .before .if2 .left) _ (c .before .before .before .before .before .before .before .before .before .before .before .before .before .average-of .ensures) (c .before .before .before .heat-turns .result) _ _ _ heated _ _ _ (c .refused3 .ensures .1) (c .refused3 .ensures .0) (c .before .if3 .taken), λ z. absurd (c .before .if3 .taken (sym (c .refused3 .ensures .0) ∙ z)))
-
-are-both-finite-requires : tie.Need-are-both-finite-requires
-are-both-finite-requires c κs = search needs
-
-refused-requires-4 : tie.Need-refused-requires-4
-refused-requires-4 c κs = search needs
 
 returns-4 : tie.Need-returns-4
 returns-4 c =
@@ -134,19 +113,19 @@ pub work-step-spec : {M : Type 1} → statement M
 work-step-spec =
     tie.close
     (tie.spec
-    lent-refusal-requires
-    refused-requires
+    (λ c κs. search needs)
+    (λ c κs. search needs)
     returns
     layer-volumes-requires
-    no-totals-requires
+    (λ c κs. search needs)
     draw-events-requires
-    refused-requires-2
+    (λ c κs. search needs)
     returns-2
     average-of-requires
     heat-turns-requires
-    refused-requires-3
+    (λ c κs. search needs)
     returns-3
-    are-both-finite-requires
-    refused-requires-4
+    (λ c κs. search needs)
+    (λ c κs. search needs)
     returns-4
     returns-5)

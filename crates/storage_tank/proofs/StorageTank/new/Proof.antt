@@ -5,12 +5,6 @@ use borrow.Author.Needs.{needs}
 use Rattle.storage_tank.proofs.StorageTank.new.Statement.{statement}
 use Rattle.storage_tank.proofs.StorageTank.new.Tie as tie
 
-make-refusal-requires : tie.Need-make-refusal-requires
-make-refusal-requires c κs = search needs
-
-zero-tank-requires : tie.Need-zero-tank-requires
-zero-tank-requires c κs = search needs
-
 returns : tie.Need-returns
 returns c = rw (c .zero-tank .ensures) (made-refused _ _ (c .before .before .make-refusal .ensures) (c .before .if1 .taken))
 
@@ -23,4 +17,4 @@ returns-2 c = rw (c .new-tank .ensures) (made-accepted _ (sym (c .before .before
 pub new-spec : {M : Type 1} → statement M
 new-spec =
     tie.close
-    (tie.spec make-refusal-requires zero-tank-requires returns new-tank-requires returns-2)
+    (tie.spec (λ c κs. search needs) (λ c κs. search needs) returns new-tank-requires returns-2)

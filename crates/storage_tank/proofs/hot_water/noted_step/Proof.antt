@@ -7,21 +7,6 @@ use borrow.Author.Needs.{needs}
 use Rattle.storage_tank.proofs.hot_water.noted_step.Statement.{statement}
 use Rattle.storage_tank.proofs.hot_water.noted_step.Tie as tie
 
-heaters-of-requires : tie.Need-heaters-of-requires
-heaters-of-requires c κs = search needs
-
-thermostats-of-requires : tie.Need-thermostats-of-requires
-thermostats-of-requires c κs = search needs
-
-present-of-requires : tie.Need-present-of-requires
-present-of-requires c κs = search needs
-
-set-points-of-requires : tie.Need-set-points-of-requires
-set-points-of-requires c κs = search needs
-
-cylinder-in-requires : tie.Need-cylinder-in-requires
-cylinder-in-requires c κs = search needs
-
 work-step-requires : tie.Need-work-step-requires
 work-step-requires c κs = record { figures-zero = refl; flags-zero = refl; rounds-zero = refl }
 
@@ -34,12 +19,6 @@ returns c =
     let step = step-back (i .t3) _ _ (p .0) (c .before .before .before .before .before .before .before .before .before .before .before .before .before .before .before .before .before .before .before .set-points-of .ensures) (p .1) in
     let worked = worked-for _ _ _ _ _ _ _ _ _ _ fixed step (c .before .before .work-step .ensures .0) in
     step-noted (i .t) (i .report) (i .t3) _ _ _ _ _ worked _ (step-refuses (i .t) (i .report) (i .t3) _ _ _ _ _ worked (c .if1 .taken)) refl zeros-noted
-
-lines-in-requires : tie.Need-lines-in-requires
-lines-in-requires c κs = search needs
-
-accepted-requires : tie.Need-accepted-requires
-accepted-requires c κs = search needs
 
 returns-2 : tie.Need-returns-2
 returns-2 c =
@@ -55,13 +34,13 @@ pub noted-step-spec : {M : Type 1} → statement M
 noted-step-spec =
     tie.close
     (tie.spec
-    heaters-of-requires
-    thermostats-of-requires
-    present-of-requires
-    set-points-of-requires
-    cylinder-in-requires
+    (λ c κs. search needs)
+    (λ c κs. search needs)
+    (λ c κs. search needs)
+    (λ c κs. search needs)
+    (λ c κs. search needs)
     work-step-requires
     returns
-    lines-in-requires
-    accepted-requires
+    (λ c κs. search needs)
+    (λ c κs. search needs)
     returns-2)

@@ -27,32 +27,8 @@ Inv-loop n fitted heaters₀ h₀ heaters h = (h ≤ maxHeaters) × (heaters ≡
 abbrev μ-loop : tie.MeasureT-loop
 μ-loop n fitted heaters₀ h₀ heaters h = maxHeaters - h
 
-zero-heater-requires : tie.Need-zero-heater-requires Inv-loop μ-loop
-zero-heater-requires c κs = search needs
-
 loop-holds : tie.Need-loop-holds Inv-loop μ-loop
 loop-holds c = (omega arith, rw (c .zero-heater .ensures))
-
-mul-x : tie.Need-mul-x Inv-loop μ-loop
-mul-x c = search needs
-
-array-copy-out-x : tie.Need-array-copy-out-x Inv-loop μ-loop
-array-copy-out-x c = search needs
-
-heater-at-requires : tie.Need-heater-at-requires Inv-loop μ-loop
-heater-at-requires c κs = search needs
-
-mul-heaters : tie.Need-mul-heaters Inv-loop μ-loop
-mul-heaters c = search needs
-
-array-set-from-heaters : tie.Need-array-set-from-heaters Inv-loop μ-loop
-array-set-from-heaters c = search needs
-
-add-h : tie.Need-add-h Inv-loop μ-loop
-add-h c = search needs
-
-loop-less : tie.Need-loop-less Inv-loop μ-loop
-loop-less c = search needs
 
 loop-again : tie.Need-loop-again Inv-loop μ-loop
 loop-again c = (omega arith, rw (c .before .before .before .loop .inv .1, c .heater-at .ensures) (tabulated-next (heaterAt (c .before .before .before .before .before .args .n) (c .before .before .before .before .before .args .t2)) maxHeaters (c .before .before .before .loop .h) noHeater (replicate maxHeaters zeroHeater) (omega arith) (omega arith)))
@@ -69,14 +45,14 @@ fitted-heaters-spec =
     (tie.spec
     Inv-loop
     μ-loop
-    zero-heater-requires
+    (λ c κs. search needs)
     loop-holds
-    mul-x
-    array-copy-out-x
-    heater-at-requires
-    mul-heaters
-    array-set-from-heaters
-    add-h
-    loop-less
+    (λ c. search needs)
+    (λ c. search needs)
+    (λ c κs. search needs)
+    (λ c. search needs)
+    (λ c. search needs)
+    (λ c. search needs)
+    (λ c. search needs)
     loop-again
     returns)

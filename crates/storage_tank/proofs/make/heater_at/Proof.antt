@@ -4,17 +4,11 @@ use borrow.Author.Needs.{needs}
 use Rattle.storage_tank.proofs.make.heater_at.Statement.{statement}
 use Rattle.storage_tank.proofs.make.heater_at.Tie as tie
 
-clean-heater-requires : tie.Need-clean-heater-requires
-clean-heater-requires c κs = search needs
-
 returns : tie.Need-returns
 returns c = rw (lt-ltb _ _ (c .before .if1 .taken), c .clean-heater .ensures)
-
-zero-heater-requires : tie.Need-zero-heater-requires
-zero-heater-requires c κs = search needs
 
 returns-2 : tie.Need-returns-2
 returns-2 c = rw (le-ltb _ _ (c .before .if1 .left), c .zero-heater .ensures)
 
 pub heater-at-spec : {M : Type 1} → statement M
-heater-at-spec = tie.close (tie.spec clean-heater-requires returns zero-heater-requires returns-2)
+heater-at-spec = tie.close (tie.spec (λ c κs. search needs) returns (λ c κs. search needs) returns-2)

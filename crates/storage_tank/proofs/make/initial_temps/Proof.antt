@@ -21,18 +21,6 @@ abbrev μ-loop : tie.MeasureT-loop
 loop-holds : tie.Need-loop-holds Inv-loop μ-loop
 loop-holds c = (omega arith, refl)
 
-mul-temps : tie.Need-mul-temps Inv-loop μ-loop
-mul-temps c = search needs
-
-array-write-temps : tie.Need-array-write-temps Inv-loop μ-loop
-array-write-temps c = search needs
-
-add-k : tie.Need-add-k Inv-loop μ-loop
-add-k c = search needs
-
-loop-less : tie.Need-loop-less Inv-loop μ-loop
-loop-less c = search needs
-
 loop-again : tie.Need-loop-again Inv-loop μ-loop
 loop-again c = (omega arith, rw (c .before .loop .inv .1) (filled-next maxLayers (c .before .loop .k) _ nan (replicate maxLayers zero-f) (omega arith) (omega arith)))
 
@@ -49,9 +37,9 @@ initial-temps-spec =
     Inv-loop
     μ-loop
     loop-holds
-    mul-temps
-    array-write-temps
-    add-k
-    loop-less
+    (λ c. search needs)
+    (λ c. search needs)
+    (λ c. search needs)
+    (λ c. search needs)
     loop-again
     returns)

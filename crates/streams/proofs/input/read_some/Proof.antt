@@ -11,57 +11,21 @@ Inv-loop buf₀ tries₀ buf tries = length buf ≡ length buf₀
 abbrev μ-loop : tie.MeasureT-loop
 μ-loop buf₀ tries₀ buf tries = tries
 
-loop-holds : tie.Need-loop-holds Inv-loop μ-loop
-loop-holds c = search needs
-
-read-requires : tie.Need-read-requires Inv-loop μ-loop
-read-requires c κs = search needs
-
-same-length : tie.Need-same-length Inv-loop μ-loop
-same-length c = search needs
-
-returns : tie.Need-returns Inv-loop μ-loop
-returns c = search needs
-
-same-length-2 : tie.Need-same-length-2 Inv-loop μ-loop
-same-length-2 c = search needs
-
-returns-2 : tie.Need-returns-2 Inv-loop μ-loop
-returns-2 c = search needs
-
-again-requires : tie.Need-again-requires Inv-loop μ-loop
-again-requires c κs = search needs
-
-same-length-3 : tie.Need-same-length-3 Inv-loop μ-loop
-same-length-3 c = search needs
-
-returns-3 : tie.Need-returns-3 Inv-loop μ-loop
-returns-3 c = search needs
-
-sub-tries : tie.Need-sub-tries Inv-loop μ-loop
-sub-tries c = search needs
-
-loop-less : tie.Need-loop-less Inv-loop μ-loop
-loop-less c = search needs
-
-loop-again : tie.Need-loop-again Inv-loop μ-loop
-loop-again c = search needs
-
 pub read-some-spec : {M : Type 1} → statement M
 read-some-spec =
     tie.close
     (tie.spec
     Inv-loop
     μ-loop
-    loop-holds
-    read-requires
-    same-length
-    returns
-    same-length-2
-    returns-2
-    again-requires
-    same-length-3
-    returns-3
-    sub-tries
-    loop-less
-    loop-again)
+    (λ c. search needs)
+    (λ c κs. search needs)
+    (λ c. search needs)
+    (λ c. search needs)
+    (λ c. search needs)
+    (λ c. search needs)
+    (λ c κs. search needs)
+    (λ c. search needs)
+    (λ c. search needs)
+    (λ c. search needs)
+    (λ c. search needs)
+    (λ c. search needs))

@@ -5,30 +5,6 @@ use borrow.Author.Needs.{needs}
 use Rattle.tank_arrays.proofs.arrays.lines_in.Statement.{statement}
 use Rattle.tank_arrays.proofs.arrays.lines_in.Tie as tie
 
-line-in-requires : tie.Need-line-in-requires
-line-in-requires c κs = search needs
-
-line-in-requires-2 : tie.Need-line-in-requires-2
-line-in-requires-2 c κs = search needs
-
-line-in-requires-3 : tie.Need-line-in-requires-3
-line-in-requires-3 c κs = search needs
-
-line-in-requires-4 : tie.Need-line-in-requires-4
-line-in-requires-4 c κs = search needs
-
-line-in-requires-5 : tie.Need-line-in-requires-5
-line-in-requires-5 c κs = search needs
-
-line-in-requires-6 : tie.Need-line-in-requires-6
-line-in-requires-6 c κs = search needs
-
-line-in-requires-7 : tie.Need-line-in-requires-7
-line-in-requires-7 c κs = search needs
-
-line-in-requires-8 : tie.Need-line-in-requires-8
-line-in-requires-8 c κs = search needs
-
 returns : tie.Need-returns
 unfolding tabulate linesIn
 returns c = rw (c .line-in8 .ensures, c .before .line-in7 .ensures, c .before .before .line-in6 .ensures, c .before .before .before .line-in5 .ensures, c .before .before .before .before .line-in4 .ensures, c .before .before .before .before .before .line-in3 .ensures, c .before .before .before .before .before .before .line-in2 .ensures, c .before .before .before .before .before .before .before .line-in .ensures)
@@ -37,12 +13,12 @@ pub lines-in-spec : {M : Type 1} → statement M
 lines-in-spec =
     tie.close
     (tie.spec
-    line-in-requires
-    line-in-requires-2
-    line-in-requires-3
-    line-in-requires-4
-    line-in-requires-5
-    line-in-requires-6
-    line-in-requires-7
-    line-in-requires-8
+    (λ c κs. search needs)
+    (λ c κs. search needs)
+    (λ c κs. search needs)
+    (λ c κs. search needs)
+    (λ c κs. search needs)
+    (λ c κs. search needs)
+    (λ c κs. search needs)
+    (λ c κs. search needs)
     returns)

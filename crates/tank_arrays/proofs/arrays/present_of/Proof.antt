@@ -23,33 +23,6 @@ abbrev μ-loop : tie.MeasureT-loop
 loop-holds : tie.Need-loop-holds Inv-loop μ-loop
 loop-holds c = rest-start _ _ _
 
-mul-x : tie.Need-mul-x Inv-loop μ-loop
-mul-x c = search needs
-
-array-copy-out-x : tie.Need-array-copy-out-x Inv-loop μ-loop
-array-copy-out-x c = search needs
-
-has-lower-requires : tie.Need-has-lower-requires Inv-loop μ-loop
-has-lower-requires c κs = search needs
-
-array-write-present : tie.Need-array-write-present Inv-loop μ-loop
-array-write-present c = search needs
-
-has-upper-requires : tie.Need-has-upper-requires Inv-loop μ-loop
-has-upper-requires c κs = search needs
-
-add-present : tie.Need-add-present Inv-loop μ-loop
-add-present c = search needs
-
-array-write-present-2 : tie.Need-array-write-present-2 Inv-loop μ-loop
-array-write-present-2 c = search needs
-
-add-h : tie.Need-add-h Inv-loop μ-loop
-add-h c = search needs
-
-loop-less : tie.Need-loop-less Inv-loop μ-loop
-loop-less c = search needs
-
 loop-again : tie.Need-loop-again Inv-loop μ-loop
 loop-again c =
     let test = c .before .before .before in
@@ -66,14 +39,14 @@ present-of-spec =
     Inv-loop
     μ-loop
     loop-holds
-    mul-x
-    array-copy-out-x
-    has-lower-requires
-    array-write-present
-    has-upper-requires
-    add-present
-    array-write-present-2
-    add-h
-    loop-less
+    (λ c. search needs)
+    (λ c. search needs)
+    (λ c κs. search needs)
+    (λ c. search needs)
+    (λ c κs. search needs)
+    (λ c. search needs)
+    (λ c. search needs)
+    (λ c. search needs)
+    (λ c. search needs)
     loop-again
     returns)

@@ -23,39 +23,6 @@ abbrev μ-loop : tie.MeasureT-loop
 loop-holds : tie.Need-loop-holds Inv-loop μ-loop
 loop-holds c = rest-start _ _ _
 
-mul-x : tie.Need-mul-x Inv-loop μ-loop
-mul-x c = search needs
-
-array-copy-out-x : tie.Need-array-copy-out-x Inv-loop μ-loop
-array-copy-out-x c = search needs
-
-lower-of-requires : tie.Need-lower-of-requires Inv-loop μ-loop
-lower-of-requires c κs = search needs
-
-mul-points : tie.Need-mul-points Inv-loop μ-loop
-mul-points c = search needs
-
-array-write-points : tie.Need-array-write-points Inv-loop μ-loop
-array-write-points c = search needs
-
-upper-of-requires : tie.Need-upper-of-requires Inv-loop μ-loop
-upper-of-requires c κs = search needs
-
-add-points : tie.Need-add-points Inv-loop μ-loop
-add-points c = search needs
-
-mul-points-2 : tie.Need-mul-points-2 Inv-loop μ-loop
-mul-points-2 c = search needs
-
-array-write-points-2 : tie.Need-array-write-points-2 Inv-loop μ-loop
-array-write-points-2 c = search needs
-
-add-h : tie.Need-add-h Inv-loop μ-loop
-add-h c = search needs
-
-loop-less : tie.Need-loop-less Inv-loop μ-loop
-loop-less c = search needs
-
 loop-again : tie.Need-loop-again Inv-loop μ-loop
 loop-again c =
     let test = c .before .before .before in
@@ -72,16 +39,16 @@ set-points-of-spec =
     Inv-loop
     μ-loop
     loop-holds
-    mul-x
-    array-copy-out-x
-    lower-of-requires
-    mul-points
-    array-write-points
-    upper-of-requires
-    add-points
-    mul-points-2
-    array-write-points-2
-    add-h
-    loop-less
+    (λ c. search needs)
+    (λ c. search needs)
+    (λ c κs. search needs)
+    (λ c. search needs)
+    (λ c. search needs)
+    (λ c κs. search needs)
+    (λ c. search needs)
+    (λ c. search needs)
+    (λ c. search needs)
+    (λ c. search needs)
+    (λ c. search needs)
     loop-again
     returns)

@@ -6,30 +6,6 @@ use borrow.Author.Needs.{needs}
 use Rattle.tank_arrays.proofs.arrays.thermostats_of.Statement.{statement}
 use Rattle.tank_arrays.proofs.arrays.thermostats_of.Tie as tie
 
-array-copy-out-a : tie.Need-array-copy-out-a
-array-copy-out-a c = search needs
-
-array-copy-out-b : tie.Need-array-copy-out-b
-array-copy-out-b c = search needs
-
-array-copy-out-c : tie.Need-array-copy-out-c
-array-copy-out-c c = search needs
-
-array-copy-out-d : tie.Need-array-copy-out-d
-array-copy-out-d c = search needs
-
-array-copy-out-e : tie.Need-array-copy-out-e
-array-copy-out-e c = search needs
-
-array-copy-out-f : tie.Need-array-copy-out-f
-array-copy-out-f c = search needs
-
-array-copy-out-g : tie.Need-array-copy-out-g
-array-copy-out-g c = search needs
-
-array-copy-out-h : tie.Need-array-copy-out-h
-array-copy-out-h c = search needs
-
 returns : tie.Need-returns
 unfolding tabulate thermostatsOf
 returns c = refl
@@ -38,12 +14,12 @@ pub thermostats-of-spec : {M : Type 1} → statement M
 thermostats-of-spec =
     tie.close
     (tie.spec
-    array-copy-out-a
-    array-copy-out-b
-    array-copy-out-c
-    array-copy-out-d
-    array-copy-out-e
-    array-copy-out-f
-    array-copy-out-g
-    array-copy-out-h
+    (λ c. search needs)
+    (λ c. search needs)
+    (λ c. search needs)
+    (λ c. search needs)
+    (λ c. search needs)
+    (λ c. search needs)
+    (λ c. search needs)
+    (λ c. search needs)
     returns)

@@ -6,15 +6,9 @@ use borrow.Author.Needs.{needs}
 use Rattle.tank_refusals.proofs.checks.both_check.Statement.{statement}
 use Rattle.tank_refusals.proofs.checks.both_check.Tie as tie
 
-is-finite-requires : tie.Need-is-finite-requires
-is-finite-requires c κs = search needs
-
 returns : tie.Need-returns
 unfolding pointsCheck
 returns c = rw (sym (c .before .is-finite .ensures) ∙ not-true _ (c .if1 .taken))
-
-is-finite-requires-2 : tie.Need-is-finite-requires-2
-is-finite-requires-2 c κs = search needs
 
 returns-2 : tie.Need-returns-2
 unfolding pointsCheck
@@ -41,4 +35,4 @@ returns-4 c =
 pub both-check-spec : {M : Type 1} → statement M
 both-check-spec =
     tie.close
-    (tie.spec is-finite-requires returns is-finite-requires-2 returns-2 returns-3 returns-4)
+    (tie.spec (λ c κs. search needs) returns (λ c κs. search needs) returns-2 returns-3 returns-4)

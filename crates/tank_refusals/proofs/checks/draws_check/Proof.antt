@@ -4,17 +4,11 @@ use borrow.Author.Needs.{needs}
 use Rattle.tank_refusals.proofs.checks.draws_check.Statement.{statement}
 use Rattle.tank_refusals.proofs.checks.draws_check.Tie as tie
 
-feed-check-requires : tie.Need-feed-check-requires
-feed-check-requires c κs = search needs
-
 returns : tie.Need-returns
 returns c = decides _ _ _ (c .before .feed-check .ensures) (c .if1 .taken)
-
-volumes-check-requires : tie.Need-volumes-check-requires
-volumes-check-requires c κs = search needs
 
 returns-2 : tie.Need-returns-2
 returns-2 c = goes-on _ _ _ _ (c .before .before .feed-check .ensures) (c .before .if1 .left) (last-decides _ _ (c .volumes-check .ensures))
 
 pub draws-check-spec : {M : Type 1} → statement M
-draws-check-spec = tie.close (tie.spec feed-check-requires returns volumes-check-requires returns-2)
+draws-check-spec = tie.close (tie.spec (λ c κs. search needs) returns (λ c κs. search needs) returns-2)

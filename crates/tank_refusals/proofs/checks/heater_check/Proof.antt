@@ -5,23 +5,11 @@ use borrow.Author.Needs.{needs}
 use Rattle.tank_refusals.proofs.checks.heater_check.Statement.{statement}
 use Rattle.tank_refusals.proofs.checks.heater_check.Tie as tie
 
-is-not-negative-requires : tie.Need-is-not-negative-requires
-is-not-negative-requires c κs = search needs
-
 returns : tie.Need-returns
 returns c = rw (sym (c .before .is-not-negative .ensures) ∙ not-true _ (c .if1 .taken))
 
-is-position-requires : tie.Need-is-position-requires
-is-position-requires c κs = search needs
-
 returns-2 : tie.Need-returns-2
 returns-2 c = rw (sym (c .before .before .before .is-not-negative .ensures) ∙ not-false _ (c .before .before .if1 .left), sym (c .before .is-position .ensures) ∙ not-true _ (c .if2 .taken))
-
-thermostat-position-requires : tie.Need-thermostat-position-requires
-thermostat-position-requires c κs = search needs
-
-is-position-requires-2 : tie.Need-is-position-requires-2
-is-position-requires-2 c κs = search needs
 
 returns-3 : tie.Need-returns-3
 returns-3 c =
@@ -43,11 +31,11 @@ pub heater-check-spec : {M : Type 1} → statement M
 heater-check-spec =
     tie.close
     (tie.spec
-    is-not-negative-requires
+    (λ c κs. search needs)
     returns
-    is-position-requires
+    (λ c κs. search needs)
     returns-2
-    thermostat-position-requires
-    is-position-requires-2
+    (λ c κs. search needs)
+    (λ c κs. search needs)
     returns-3
     returns-4)

@@ -10,9 +10,6 @@ use Rattle.tank_refusals.proofs.checks.heaters_check.Tie as tie
 returns : tie.Need-returns
 returns c = let a = c .before .args in rw (lt-leb (a .n + a .more) maxHeaters (omega (arith, c .if1 .taken)))
 
-add-if2 : tie.Need-add-if2
-add-if2 c = search needs
-
 returns-2 : tie.Need-returns-2
 returns-2 c = rw (lt-leb _ _ (c .if2 .taken))
 
@@ -20,4 +17,4 @@ returns-3 : tie.Need-returns-3
 returns-3 c = rw (le-leb _ _ (c .if2 .left))
 
 pub heaters-check-spec : {M : Type 1} → statement M
-heaters-check-spec = tie.close (tie.spec returns add-if2 returns-2 returns-3)
+heaters-check-spec = tie.close (tie.spec returns (λ c. search needs) returns-2 returns-3)

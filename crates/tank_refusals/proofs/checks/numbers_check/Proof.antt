@@ -5,26 +5,14 @@ use borrow.Author.Needs.{needs}
 use Rattle.tank_refusals.proofs.checks.numbers_check.Statement.{statement}
 use Rattle.tank_refusals.proofs.checks.numbers_check.Tie as tie
 
-is-finite-above-zero-requires : tie.Need-is-finite-above-zero-requires
-is-finite-above-zero-requires c κs = search needs
-
 returns : tie.Need-returns
 returns c = rw (sym (c .before .is-finite-above-zero .ensures) ∙ not-true _ (c .if1 .taken))
-
-is-finite-above-zero-requires-2 : tie.Need-is-finite-above-zero-requires-2
-is-finite-above-zero-requires-2 c κs = search needs
 
 returns-2 : tie.Need-returns-2
 returns-2 c = rw (sym (c .before .before .before .is-finite-above-zero .ensures) ∙ not-false _ (c .before .before .if1 .left), sym (c .before .is-finite-above-zero2 .ensures) ∙ not-true _ (c .if2 .taken))
 
-is-finite-above-zero-requires-3 : tie.Need-is-finite-above-zero-requires-3
-is-finite-above-zero-requires-3 c κs = search needs
-
 returns-3 : tie.Need-returns-3
 returns-3 c = rw (sym (c .before .before .before .before .before .is-finite-above-zero .ensures) ∙ not-false _ (c .before .before .before .before .if1 .left), sym (c .before .before .before .is-finite-above-zero2 .ensures) ∙ not-false _ (c .before .before .if2 .left), sym (c .before .is-finite-above-zero3 .ensures) ∙ not-true _ (c .if3 .taken))
-
-is-finite-above-zero-requires-4 : tie.Need-is-finite-above-zero-requires-4
-is-finite-above-zero-requires-4 c κs = search needs
 
 returns-4 : tie.Need-returns-4
 returns-4 c = rw (sym (c .before .before .before .before .before .before .before .is-finite-above-zero .ensures) ∙ not-false _ (c .before .before .before .before .before .before .if1 .left), sym (c .before .before .before .before .before .is-finite-above-zero2 .ensures) ∙ not-false _ (c .before .before .before .before .if2 .left), sym (c .before .before .before .is-finite-above-zero3 .ensures) ∙ not-false _ (c .before .before .if3 .left), ← c .before .is-finite-above-zero4 .ensures, c .if4 .taken)
@@ -36,12 +24,12 @@ pub numbers-check-spec : {M : Type 1} → statement M
 numbers-check-spec =
     tie.close
     (tie.spec
-    is-finite-above-zero-requires
+    (λ c κs. search needs)
     returns
-    is-finite-above-zero-requires-2
+    (λ c κs. search needs)
     returns-2
-    is-finite-above-zero-requires-3
+    (λ c κs. search needs)
     returns-3
-    is-finite-above-zero-requires-4
+    (λ c κs. search needs)
     returns-4
     returns-5)

@@ -16,23 +16,11 @@ abbrev μ-loop : tie.MeasureT-loop
 loop-holds : tie.Need-loop-holds Inv-loop μ-loop
 loop-holds c = searched-start _ _
 
-heater-at-requires : tie.Need-heater-at-requires Inv-loop μ-loop
-heater-at-requires c κs = search needs
-
-heater-check-requires : tie.Need-heater-check-requires Inv-loop μ-loop
-heater-check-requires c κs = search needs
-
 returns : tie.Need-returns Inv-loop μ-loop
 returns c =
     let test = c .before .before .before in
     let e = check-at _ _ _ _ _ (test .loop-test .taken) (c .before .before .heater-at .ensures) (c .before .heater-check .ensures) in
     places-are _ _ _ (searched-stop _ _ _ _ (test .loop-test .taken) e (c .if1 .taken) (test .before .loop .inv))
-
-add-h : tie.Need-add-h Inv-loop μ-loop
-add-h c = search needs
-
-loop-less : tie.Need-loop-less Inv-loop μ-loop
-loop-less c = search needs
 
 loop-again : tie.Need-loop-again Inv-loop μ-loop
 loop-again c =
@@ -50,10 +38,10 @@ places-check-spec =
     Inv-loop
     μ-loop
     loop-holds
-    heater-at-requires
-    heater-check-requires
+    (λ c κs. search needs)
+    (λ c κs. search needs)
     returns
-    add-h
-    loop-less
+    (λ c. search needs)
+    (λ c. search needs)
     loop-again
     returns-2)

@@ -4,24 +4,6 @@ use borrow.Author.Needs.{needs}
 use Rattle.tank_refusals.proofs.checks.points_check.Statement.{statement}
 use Rattle.tank_refusals.proofs.checks.points_check.Tie as tie
 
-enum-told : tie.Need-enum-told
-enum-told c = search needs
-
-enum-told-2 : tie.Need-enum-told-2
-enum-told-2 c = search needs
-
-enum-known-p : tie.Need-enum-known-p
-enum-known-p c = search needs
-
-upper-check-requires : tie.Need-upper-check-requires
-upper-check-requires c κs = search needs
-
-enum-known-p-2 : tie.Need-enum-known-p-2
-enum-known-p-2 c = search needs
-
-both-check-requires : tie.Need-both-check-requires
-both-check-requires c κs = search needs
-
 returns : tie.Need-returns
 unfolding pointsCheck
 returns c = rw (c .enum-told .given .1)
@@ -40,12 +22,12 @@ pub points-check-spec : {M : Type 1} → statement M
 points-check-spec =
     tie.close
     (tie.spec
-    enum-told
-    enum-told-2
-    enum-known-p
-    upper-check-requires
-    enum-known-p-2
-    both-check-requires
+    (λ c. search needs)
+    (λ c. search needs)
+    (λ c. search needs)
+    (λ c κs. search needs)
+    (λ c. search needs)
+    (λ c κs. search needs)
     returns
     returns-2
     returns-3

@@ -18,22 +18,10 @@ abbrev μ-loop : tie.MeasureT-loop
 loop-holds : tie.Need-loop-holds Inv-loop μ-loop
 loop-holds c = searched-start _ _
 
-points-at-requires : tie.Need-points-at-requires Inv-loop μ-loop
-points-at-requires c κs = search needs
-
-points-check-requires : tie.Need-points-check-requires Inv-loop μ-loop
-points-check-requires c κs = search needs
-
 returns : tie.Need-returns Inv-loop μ-loop
 returns c =
     let test = c .before .before .before in
     searched-stop _ _ _ _ (test .loop-test .taken) (c .before .points-check .ensures ∙ ap pointsCheck (c .before .before .points-at .ensures)) (c .if1 .taken) (test .before .loop .inv)
-
-add-h : tie.Need-add-h Inv-loop μ-loop
-add-h c = search needs
-
-loop-less : tie.Need-loop-less Inv-loop μ-loop
-loop-less c = search needs
 
 loop-again : tie.Need-loop-again Inv-loop μ-loop
 loop-again c =
@@ -50,10 +38,10 @@ settings-check-spec =
     Inv-loop
     μ-loop
     loop-holds
-    points-at-requires
-    points-check-requires
+    (λ c κs. search needs)
+    (λ c κs. search needs)
     returns
-    add-h
-    loop-less
+    (λ c. search needs)
+    (λ c. search needs)
     loop-again
     returns-2)

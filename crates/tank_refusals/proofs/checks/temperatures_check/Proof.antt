@@ -5,14 +5,8 @@ use borrow.Author.Needs.{needs}
 use Rattle.tank_refusals.proofs.checks.temperatures_check.Statement.{statement}
 use Rattle.tank_refusals.proofs.checks.temperatures_check.Tie as tie
 
-is-not-negative-requires : tie.Need-is-not-negative-requires
-is-not-negative-requires c κs = search needs
-
 returns : tie.Need-returns
 returns c = rw (sym (c .before .is-not-negative .ensures) ∙ not-true _ (c .if1 .taken))
-
-is-finite-requires : tie.Need-is-finite-requires
-is-finite-requires c κs = search needs
 
 returns-2 : tie.Need-returns-2
 returns-2 c = rw (sym (c .before .before .before .is-not-negative .ensures) ∙ not-false _ (c .before .before .if1 .left), sym (c .before .is-finite .ensures) ∙ not-true _ (c .if2 .taken))
@@ -36,4 +30,4 @@ returns-4 c =
 pub temperatures-check-spec : {M : Type 1} → statement M
 temperatures-check-spec =
     tie.close
-    (tie.spec is-not-negative-requires returns is-finite-requires returns-2 returns-3 returns-4)
+    (tie.spec (λ c κs. search needs) returns (λ c κs. search needs) returns-2 returns-3 returns-4)

@@ -4,9 +4,6 @@ use borrow.Author.Needs.{needs}
 use Rattle.tank_refusals.proofs.checks.upper_check.Statement.{statement}
 use Rattle.tank_refusals.proofs.checks.upper_check.Tie as tie
 
-is-finite-requires : tie.Need-is-finite-requires
-is-finite-requires c κs = search needs
-
 returns : tie.Need-returns
 unfolding pointsCheck
 returns c = rw (← c .before .is-finite .ensures, c .if1 .taken)
@@ -16,4 +13,4 @@ unfolding pointsCheck
 returns-2 c = rw (← c .before .is-finite .ensures, c .if1 .left)
 
 pub upper-check-spec : {M : Type 1} → statement M
-upper-check-spec = tie.close (tie.spec is-finite-requires returns returns-2)
+upper-check-spec = tie.close (tie.spec (λ c κs. search needs) returns returns-2)

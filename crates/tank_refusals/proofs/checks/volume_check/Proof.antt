@@ -4,9 +4,6 @@ use borrow.Author.Needs.{needs}
 use Rattle.tank_refusals.proofs.checks.volume_check.Statement.{statement}
 use Rattle.tank_refusals.proofs.checks.volume_check.Tie as tie
 
-is-not-negative-requires : tie.Need-is-not-negative-requires
-is-not-negative-requires c κs = search needs
-
 returns : tie.Need-returns
 returns c = rw (sym (c .before .is-not-negative .ensures) ∙ c .if1 .taken)
 
@@ -14,4 +11,4 @@ returns-2 : tie.Need-returns-2
 returns-2 c = rw (sym (c .before .is-not-negative .ensures) ∙ c .if1 .left)
 
 pub volume-check-spec : {M : Type 1} → statement M
-volume-check-spec = tie.close (tie.spec is-not-negative-requires returns returns-2)
+volume-check-spec = tie.close (tie.spec (λ c κs. search needs) returns returns-2)

@@ -17,25 +17,10 @@ abbrev μ-loop : tie.MeasureT-loop
 loop-holds : tie.Need-loop-holds Inv-loop μ-loop
 loop-holds c = searched-start _ _
 
-mul-volume-check : tie.Need-mul-volume-check Inv-loop μ-loop
-mul-volume-check c = search needs
-
-element-copy-out-volume-check : tie.Need-element-copy-out-volume-check Inv-loop μ-loop
-element-copy-out-volume-check c = search needs
-
-volume-check-requires : tie.Need-volume-check-requires Inv-loop μ-loop
-volume-check-requires c κs = search needs
-
 returns : tie.Need-returns Inv-loop μ-loop
 returns c =
     let test = c .before .before .before in
     searched-stop _ _ _ _ (test .loop-test .taken) (c .before .volume-check .ensures) (c .if1 .taken) (test .before .loop .inv)
-
-add-i : tie.Need-add-i Inv-loop μ-loop
-add-i c = search needs
-
-loop-less : tie.Need-loop-less Inv-loop μ-loop
-loop-less c = search needs
 
 loop-again : tie.Need-loop-again Inv-loop μ-loop
 loop-again c =
@@ -52,11 +37,11 @@ volumes-check-spec =
     Inv-loop
     μ-loop
     loop-holds
-    mul-volume-check
-    element-copy-out-volume-check
-    volume-check-requires
+    (λ c. search needs)
+    (λ c. search needs)
+    (λ c κs. search needs)
     returns
-    add-i
-    loop-less
+    (λ c. search needs)
+    (λ c. search needs)
     loop-again
     returns-2)

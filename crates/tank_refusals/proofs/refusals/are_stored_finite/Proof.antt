@@ -7,11 +7,8 @@ use Rattle.tank_refusals.proofs.refusals.are_stored_finite.Tie as tie
 returns : tie.Need-returns
 returns c = rw (lt-leb _ _ (c .if1 .taken))
 
-are-finite-requires : tie.Need-are-finite-requires
-are-finite-requires c κs = search needs
-
 returns-2 : tie.Need-returns-2
 returns-2 c = rw (le-leb _ _ (c .before .if1 .left)) (c .are-finite .ensures)
 
 pub are-stored-finite-spec : {M : Type 1} → statement M
-are-stored-finite-spec = tie.close (tie.spec returns are-finite-requires returns-2)
+are-stored-finite-spec = tie.close (tie.spec returns (λ c κs. search needs) returns-2)

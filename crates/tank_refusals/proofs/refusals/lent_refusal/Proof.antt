@@ -6,12 +6,6 @@ use borrow.Author.Needs.{needs}
 use Rattle.tank_refusals.proofs.refusals.lent_refusal.Statement.{statement}
 use Rattle.tank_refusals.proofs.refusals.lent_refusal.Tie as tie
 
-are-stored-finite-requires : tie.Need-are-stored-finite-requires
-are-stored-finite-requires c κs = search needs
-
-tank-refusal-requires : tie.Need-tank-refusal-requires
-tank-refusal-requires c κs = search needs
-
 returns : tie.Need-returns
 returns c =
     let a = c .before .before .before .before .args in
@@ -39,8 +33,8 @@ pub lent-refusal-spec : {M : Type 1} → statement M
 lent-refusal-spec =
     tie.close
     (tie.spec
-    are-stored-finite-requires
-    tank-refusal-requires
+    (λ c κs. search needs)
+    (λ c κs. search needs)
     returns
     step-refusal-requires
     returns-2)

@@ -5,21 +5,6 @@ use borrow.Author.Needs.{needs}
 use Rattle.tank_refusals.proofs.refusals.make_refusal.Statement.{statement}
 use Rattle.tank_refusals.proofs.refusals.make_refusal.Tie as tie
 
-cylinder-of-requires : tie.Need-cylinder-of-requires
-cylinder-of-requires c κs = search needs
-
-heaters-of-requires : tie.Need-heaters-of-requires
-heaters-of-requires c κs = search needs
-
-thermostats-of-requires : tie.Need-thermostats-of-requires
-thermostats-of-requires c κs = search needs
-
-is-finite-requires : tie.Need-is-finite-requires
-is-finite-requires c κs = search needs
-
-tank-refusal-requires : tie.Need-tank-refusal-requires
-tank-refusal-requires c κs = search needs
-
 returns : tie.Need-returns
 unfolding makeRefusal
 returns c =
@@ -30,9 +15,9 @@ pub make-refusal-spec : {M : Type 1} → statement M
 make-refusal-spec =
     tie.close
     (tie.spec
-    cylinder-of-requires
-    heaters-of-requires
-    thermostats-of-requires
-    is-finite-requires
-    tank-refusal-requires
+    (λ c κs. search needs)
+    (λ c κs. search needs)
+    (λ c κs. search needs)
+    (λ c κs. search needs)
+    (λ c κs. search needs)
     returns)

@@ -5,9 +5,6 @@ use borrow.Author.Needs.{needs}
 use Rattle.tank_refusals.proofs.refusals.step_refusal.Statement.{statement}
 use Rattle.tank_refusals.proofs.refusals.step_refusal.Tie as tie
 
-counts-check-requires : tie.Need-counts-check-requires
-counts-check-requires c κs = search needs
-
 returns : tie.Need-returns
 returns c =
     let a = c .before .before .args in
@@ -42,7 +39,7 @@ pub step-refusal-spec : {M : Type 1} → statement M
 step-refusal-spec =
     tie.close
     (tie.spec
-    counts-check-requires
+    (λ c κs. search needs)
     returns
     draws-check-requires
     returns-2

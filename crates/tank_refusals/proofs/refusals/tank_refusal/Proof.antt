@@ -7,31 +7,19 @@ use borrow.Author.Needs.{needs}
 use Rattle.tank_refusals.proofs.refusals.tank_refusal.Statement.{statement}
 use Rattle.tank_refusals.proofs.refusals.tank_refusal.Tie as tie
 
-layers-check-requires : tie.Need-layers-check-requires
-layers-check-requires c κs = search needs
-
 returns : tie.Need-returns
 returns c = decides _ _ _ (c .before .layers-check .ensures) (c .if1 .taken)
-
-heaters-check-requires : tie.Need-heaters-check-requires
-heaters-check-requires c κs = search needs
 
 returns-2 : tie.Need-returns-2
 returns-2 c =
     goes-on _ _ _ _ (c .before .before .before .layers-check .ensures) (c .before .before .if1 .left)
     (decides _ _ _ (heaters-are _ _ _ (c .before .heaters-check .ensures)) (c .if2 .taken))
 
-numbers-check-requires : tie.Need-numbers-check-requires
-numbers-check-requires c κs = search needs
-
 returns-3 : tie.Need-returns-3
 returns-3 c =
     goes-on _ _ _ _ (c .before .before .before .before .before .layers-check .ensures) (c .before .before .before .before .if1 .left)
     (goes-on _ _ _ _ (heaters-are _ _ _ (c .before .before .before .heaters-check .ensures)) (c .before .before .if2 .left)
     (decides _ _ _ (c .before .numbers-check .ensures) (c .if3 .taken)))
-
-temperatures-check-requires : tie.Need-temperatures-check-requires
-temperatures-check-requires c κs = search needs
 
 returns-4 : tie.Need-returns-4
 returns-4 c =
@@ -57,13 +45,13 @@ pub tank-refusal-spec : {M : Type 1} → statement M
 tank-refusal-spec =
     tie.close
     (tie.spec
-    layers-check-requires
+    (λ c κs. search needs)
     returns
-    heaters-check-requires
+    (λ c κs. search needs)
     returns-2
-    numbers-check-requires
+    (λ c κs. search needs)
     returns-3
-    temperatures-check-requires
+    (λ c κs. search needs)
     returns-4
     places-check-requires
     returns-5)
