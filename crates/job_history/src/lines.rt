@@ -4,8 +4,9 @@ ghost use Prim.Native.Nat.{_+_, _*_, _≤_};
 ghost use lib.ListN.{length};
 ghost use Rattle.working_order.specs.Order.{maxHeaters};
 ghost use Rattle.job_lines.specs.Put.{Put, written};
-ghost use Rattle.job_lines.specs.Lengths.{maxText};
+ghost use Rattle.job_lines.specs.Lengths.{headBytes, maxText, maxPlace};
 ghost use Rattle.job_history.specs.Lines.{missingText, pointsText, courseText, outcomeText, turnLine, turnLines, historyLines};
+ghost use Rattle.job_history.specs.Lengths.{missingBytes, pointsBytes, courseBytes, outcomeBytes, turnBytes};
 use crate::TurnFact;
 use crate::Turns;
 use job_lines::text::put_byte;
@@ -16,16 +17,16 @@ use working_order::MAX_HEATERS;
 
 // A space and a hyphen.
 fn put_missing(buf: &mut [u8], at: usize) -> usize
-    requires { ⌜ at ≤ 4000 ⌝ }
-    ensures { λ r. ⌜ (Put (now (buf .entry)) at missingText (now (buf .exit)) r) × (r ≤ at + 2) ⌝ }
+    requires { ⌜ at + missingBytes ≤ maxPlace ⌝ }
+    ensures { λ r. ⌜ (Put (now (buf .entry)) at missingText (now (buf .exit)) r) × (r ≤ at + missingBytes) ⌝ }
 {
     let a = put_byte(buf, at, b' ');
     put_byte(buf, a, b'-')
 }
 
 fn put_points(buf: &mut [u8], at: usize, p: SetPoints) -> usize
-    requires { ⌜ at ≤ 3000 ⌝ }
-    ensures { λ r. ⌜ (Put (now (buf .entry)) at (pointsText p) (now (buf .exit)) r) × (r ≤ at + 34) ⌝ }
+    requires { ⌜ at + pointsBytes ≤ maxPlace ⌝ }
+    ensures { λ r. ⌜ (Put (now (buf .entry)) at (pointsText p) (now (buf .exit)) r) × (r ≤ at + pointsBytes) ⌝ }
 {
     match p {
         SetPoints::Neither => {
@@ -49,8 +50,8 @@ fn put_points(buf: &mut [u8], at: usize, p: SetPoints) -> usize
 
 // T, the heater, its thermostat layer at the begin and at the end, and its set points.
 fn put_course(buf: &mut [u8], at: usize, x: TurnFact) -> usize
-    requires { ⌜ at ≤ 2000 ⌝ }
-    ensures { λ r. ⌜ (Put (now (buf .entry)) at (courseText x) (now (buf .exit)) r) × (r ≤ at + 90) ⌝ }
+    requires { ⌜ at + courseBytes ≤ maxPlace ⌝ }
+    ensures { λ r. ⌜ (Put (now (buf .entry)) at (courseText x) (now (buf .exit)) r) × (r ≤ at + courseBytes) ⌝ }
 {
     let a = put_byte(buf, at, b'T');
     let b = put_number(buf, a, x.heater);
@@ -62,8 +63,8 @@ fn put_course(buf: &mut [u8], at: usize, x: TurnFact) -> usize
 
 // Whether the heater ran, its flag, its supply and the rounds of its mixing, and the line's end.
 fn put_outcome(buf: &mut [u8], at: usize, x: TurnFact) -> usize
-    requires { ⌜ at ≤ 2090 ⌝ }
-    ensures { λ r. ⌜ (Put (now (buf .entry)) at (outcomeText x) (now (buf .exit)) r) × (r ≤ at + 81) ⌝ }
+    requires { ⌜ at + outcomeBytes ≤ maxPlace ⌝ }
+    ensures { λ r. ⌜ (Put (now (buf .entry)) at (outcomeText x) (now (buf .exit)) r) × (r ≤ at + outcomeBytes) ⌝ }
 {
     let a = put_number(buf, at, job_lines::lines::flag_number(x.ran));
     let b = put_number(buf, a, job_lines::lines::flag_number(x.flag));
@@ -73,8 +74,8 @@ fn put_outcome(buf: &mut [u8], at: usize, x: TurnFact) -> usize
 }
 
 fn put_turn_line(buf: &mut [u8], at: usize, x: TurnFact) -> usize
-    requires { ⌜ at ≤ 2000 ⌝ }
-    ensures { λ r. ⌜ (Put (now (buf .entry)) at (turnLine x) (now (buf .exit)) r) × (r ≤ at + 171) ⌝ }
+    requires { ⌜ at + turnBytes ≤ maxPlace ⌝ }
+    ensures { λ r. ⌜ (Put (now (buf .entry)) at (turnLine x) (now (buf .exit)) r) × (r ≤ at + turnBytes) ⌝ }
 {
     let a = put_course(buf, at, x);
     put_outcome(buf, a, x)
@@ -82,8 +83,8 @@ fn put_turn_line(buf: &mut [u8], at: usize, x: TurnFact) -> usize
 
 // The lines of the first `count` turns.
 fn put_turn_lines(buf: &mut [u8], at: usize, count: usize, facts: [TurnFact; MAX_HEATERS]) -> usize
-    requires { ⌜ (count ≤ maxHeaters) × (at ≤ 44) ⌝ }
-    ensures { λ r. ⌜ (Put (now (buf .entry)) at (turnLines count facts) (now (buf .exit)) r) × (r ≤ at + 171 * count) ⌝ }
+    requires { ⌜ (count ≤ maxHeaters) × (at ≤ headBytes + 1) ⌝ }
+    ensures { λ r. ⌜ (Put (now (buf .entry)) at (turnLines count facts) (now (buf .exit)) r) × (r ≤ at + turnBytes * count) ⌝ }
 {
     let mut a = at;
     let mut k = 0;

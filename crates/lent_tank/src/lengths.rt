@@ -2,16 +2,18 @@
 // copy.
 ghost use mathlib.Core.Path.{_≡_};
 ghost use lib.ListN.{length};
+ghost use Rattle.working_order.specs.Order.{maxHeaters, threeEach};
+use tank_arrays::arrays::THREE_EACH;
 use working_order::MAX_HEATERS;
 
 pub fn lengths_told(
     counts: [usize; 2],
     numbers: [f64; 6],
-    heaters: [f64; 24],
+    heaters: [f64; THREE_EACH],
     totals: [f64; 4],
-    figures: [f64; 24],
+    figures: [f64; THREE_EACH],
     rounds: [usize; MAX_HEATERS],
 )
-    ensures { λ r. ⌜ (length counts ≡ 2) × (length numbers ≡ 6) × (length heaters ≡ 24)
-        × (length totals ≡ 4) × (length figures ≡ 24) × (length rounds ≡ 8) ⌝ }
+    ensures { λ r. ⌜ (length counts ≡ 2) × (length numbers ≡ 6) × (length heaters ≡ threeEach)
+        × (length totals ≡ 4) × (length figures ≡ threeEach) × (length rounds ≡ maxHeaters) ⌝ }
 {}

@@ -2,12 +2,13 @@
 ghost use mathlib.Core.Path.{_≡_};
 ghost use Rattle.lent_tank.specs.Reports.{reportIn, totalsOf, figuresOf, lineFlagsOf, roundsOf};
 use storage_tank::Report;
+use tank_arrays::arrays::THREE_EACH;
 use tank_model::HeaterLine;
 use working_order::MAX_HEATERS;
 
 pub fn report_in(
     totals: [f64; 4],
-    figures: [f64; 24],
+    figures: [f64; THREE_EACH],
     flags: [u8; MAX_HEATERS],
     rounds: [usize; MAX_HEATERS],
 ) -> Report
@@ -30,7 +31,7 @@ pub fn totals_of(r: Report) -> [f64; 4]
     [r.energy, r.used, r.average, r.recoverable]
 }
 
-pub fn figures_of(lines: [HeaterLine; MAX_HEATERS]) -> [f64; 24]
+pub fn figures_of(lines: [HeaterLine; MAX_HEATERS]) -> [f64; THREE_EACH]
     ensures { λ r. ⌜ r ≡ figuresOf lines ⌝ }
 {
     let a = lines[0];

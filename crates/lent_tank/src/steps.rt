@@ -7,11 +7,12 @@ ghost use Rattle.tank_model.specs.Checks.{noSetting};
 ghost use Rattle.tank_arrays.specs.Arrays.{settingsIn};
 ghost use Rattle.lent_tank.specs.Steps.{stepIn};
 use draw_events::event::MAX_EVENTS;
+use tank_arrays::arrays::TWO_EACH;
 use tank_model::Setting;
 use tank_model::Step;
 use working_order::MAX_HEATERS;
 
-fn setting_in(present: &[bool; 16], points: &[f64; 16], h: usize) -> Setting
+fn setting_in(present: &[bool; TWO_EACH], points: &[f64; TWO_EACH], h: usize) -> Setting
     requires { ⌜ h < maxHeaters ⌝ }
     ensures { λ r. ⌜ r ≡ getD (settingsIn (now (present .entry)) (now (points .entry))) h noSetting ⌝ }
 {
@@ -19,7 +20,7 @@ fn setting_in(present: &[bool; 16], points: &[f64; 16], h: usize) -> Setting
     Setting { points: p }
 }
 
-fn settings_in(present: &[bool; 16], points: &[f64; 16]) -> [Setting; MAX_HEATERS]
+fn settings_in(present: &[bool; TWO_EACH], points: &[f64; TWO_EACH]) -> [Setting; MAX_HEATERS]
     ensures { λ r. ⌜ r ≡ settingsIn (now (present .entry)) (now (points .entry)) ⌝ }
 {
     [
@@ -38,8 +39,8 @@ pub fn step_in(
     feed: f64,
     asked: [usize; 2],
     volumes: [f64; MAX_EVENTS],
-    present: &[u8; 16],
-    points: &[f64; 16],
+    present: &[u8; TWO_EACH],
+    points: &[f64; TWO_EACH],
 ) -> Step
     ensures { λ r. ⌜ r ≡ stepIn feed asked volumes (now (present .entry)) (now (points .entry)) ⌝ }
 {

@@ -6,24 +6,26 @@ ghost use Rattle.tank_arrays.specs.Arrays.{heaterIn, fittedIn};
 ghost use Rattle.lent_tank.specs.Tanks.{tankIn, designIn, countsOf, numbersOf};
 use mixing::limits::MAX_LAYERS;
 use storage_tank::StorageTank;
+use tank_arrays::arrays::THREE_EACH;
+use tank_arrays::arrays::TWO_EACH;
 use tank_model::Heater;
 use tank_model::TankDesign;
 use working_order::MAX_HEATERS;
 
 // The heater h: rated powers stand first, then positions, then thermostat positions.
-fn heater_in(xs: [f64; 24], bs: [bool; MAX_HEATERS], h: usize) -> Heater
+fn heater_in(xs: [f64; THREE_EACH], bs: [bool; MAX_HEATERS], h: usize) -> Heater
     requires { ⌜ h < maxHeaters ⌝ }
     ensures { λ r. ⌜ r ≡ heaterIn xs bs h ⌝ }
 {
     Heater {
         rated: xs[h],
-        position: xs[8 + h],
+        position: xs[MAX_HEATERS + h],
         has_thermostat: bs[h],
-        thermostat: xs[16 + h],
+        thermostat: xs[TWO_EACH + h],
     }
 }
 
-fn fitted_in(xs: [f64; 24], bs: [bool; MAX_HEATERS]) -> [Heater; MAX_HEATERS]
+fn fitted_in(xs: [f64; THREE_EACH], bs: [bool; MAX_HEATERS]) -> [Heater; MAX_HEATERS]
     ensures { λ r. ⌜ r ≡ fittedIn xs bs ⌝ }
 {
     [
@@ -42,7 +44,7 @@ pub fn tank_in(
     counts: [usize; 2],
     numbers: [f64; 6],
     temps: [f64; MAX_LAYERS],
-    heaters: [f64; 24],
+    heaters: [f64; THREE_EACH],
     thermostats: [u8; MAX_HEATERS],
     flags: [u8; MAX_HEATERS],
 ) -> StorageTank
@@ -69,7 +71,7 @@ pub fn design_in(
     counts: [usize; 2],
     numbers: [f64; 6],
     initial: f64,
-    heaters: [f64; 24],
+    heaters: [f64; THREE_EACH],
     thermostats: [u8; MAX_HEATERS],
 ) -> TankDesign
     ensures { λ r. ⌜ r ≡ designIn counts numbers initial heaters thermostats ⌝ }

@@ -64,7 +64,7 @@ fn put_tank(
     counts: &mut [usize; 2],
     numbers: &mut [f64; 6],
     temps: &mut [f64; MAX_LAYERS],
-    heaters: &mut [f64; 24],
+    heaters: &mut [f64; THREE_EACH],
     thermostats: &mut [u8; MAX_HEATERS],
     flags: &mut [u8; MAX_HEATERS],
 )
@@ -89,7 +89,7 @@ fn put_tank(
 fn put_report(
     r: Report,
     totals: &mut [f64; 4],
-    figures: &mut [f64; 24],
+    figures: &mut [f64; THREE_EACH],
     flags: &mut [u8; MAX_HEATERS],
     rounds: &mut [usize; MAX_HEATERS],
 )
@@ -122,7 +122,7 @@ pub extern "C" fn huszmago_make(
     counts: &mut [usize; 2],
     numbers: &mut [f64; 6],
     temps: &mut [f64; MAX_LAYERS],
-    heaters: &mut [f64; 24],
+    heaters: &mut [f64; THREE_EACH],
     thermostats: &mut [u8; MAX_HEATERS],
     flags: &mut [u8; MAX_HEATERS],
 ) -> u8
@@ -148,18 +148,18 @@ pub extern "C" fn huszmago_step(
     counts: &mut [usize; 2],
     numbers: &mut [f64; 6],
     temps: &mut [f64; MAX_LAYERS],
-    heaters: &mut [f64; 24],
+    heaters: &mut [f64; THREE_EACH],
     thermostats: &mut [u8; MAX_HEATERS],
     flags: &mut [u8; MAX_HEATERS],
     totals: &mut [f64; 4],
-    figures: &mut [f64; 24],
+    figures: &mut [f64; THREE_EACH],
     line_flags: &mut [u8; MAX_HEATERS],
     rounds: &mut [usize; MAX_HEATERS],
     feed: f64,
     asked: &[usize; 2],
     volumes: &[f64; MAX_EVENTS],
-    present: &[u8; 16],
-    points: &[f64; 16],
+    present: &[u8; TWO_EACH],
+    points: &[f64; TWO_EACH],
 ) -> u8
     ensures { λ r. ⌜ StepLeft
         (stepped
@@ -231,18 +231,18 @@ pub extern "C" fn huszmago_demand_hot_water(
     counts: &mut [usize; 2],
     numbers: &mut [f64; 6],
     temps: &mut [f64; MAX_LAYERS],
-    heaters: &mut [f64; 24],
+    heaters: &mut [f64; THREE_EACH],
     thermostats: &mut [u8; MAX_HEATERS],
     flags: &mut [u8; MAX_HEATERS],
     totals: &mut [f64; 4],
-    figures: &mut [f64; 24],
+    figures: &mut [f64; THREE_EACH],
     line_flags: &mut [u8; MAX_HEATERS],
     rounds: &mut [usize; MAX_HEATERS],
     feed: f64,
     asked: &[usize; 2],
     volumes: &[f64; MAX_EVENTS],
-    present: &[u8; 16],
-    points: &[f64; 16],
+    present: &[u8; TWO_EACH],
+    points: &[f64; TWO_EACH],
 ) -> u8
     ensures { λ r. ⌜ StepAnswered
         (stepped

@@ -10,6 +10,8 @@ use lib.Dec.{T}
 use lib.ListN.{length, getD, replicate}
 use lib.Ieee.{Float}
 use Rattle.numeric.specs.Double.{zero-f}
+use Rattle.mixing.specs.Limits.{maxLayers}
+use Rattle.working_order.specs.Order.{maxHeaters}
 use Rattle.tank_model.specs.declared.Heater.{Heater}
 use Rattle.tank_model.specs.declared.TankDesign.{TankDesign}
 use Rattle.tank_model.specs.Fixed.{State, noHeater, zeroHeater}
@@ -85,9 +87,9 @@ pub record NoTank (t : StorageTank) : Type 0 where
   pub cp : t .cp ≡ zero-f
   pub ambient : t .ambient ≡ zero-f
   pub timestep : t .timestep ≡ zero-f
-  pub temps : t .temps ≡ replicate 32 zero-f
-  pub fitted : t .fitted ≡ replicate 8 (record { rated = zero-f; position = zero-f; «has_thermostat» = false; thermostat = zero-f })
-  pub flags : t .flags ≡ replicate 8 false
+  pub temps : t .temps ≡ replicate maxLayers zero-f
+  pub fitted : t .fitted ≡ replicate maxHeaters (record { rated = zero-f; position = zero-f; «has_thermostat» = false; thermostat = zero-f })
+  pub flags : t .flags ≡ replicate maxHeaters false
 
 -- n: what make is refused for, or 0. A refused make gives a tank of zeros
 abbrev pub holding : ℕ → Held → StorageTank

@@ -11,6 +11,7 @@ use lib.Ieee.{Float, nan, lt, le}
 use Rattle.numeric.specs.Double.{_⊛_, _⊘_, whole}
 use Rattle.numeric.specs.Close.{narrowClose}
 use Rattle.numeric.specs.Whole.{layerOf}
+use Rattle.mixing.specs.Limits.{maxLayers}
 use Rattle.cylinder.specs.declared.Cylinder.{Cylinder}
 use Rattle.draw_off.specs.declared.cold.Feed.{Feed}
 use Rattle.set_points.specs.declared.SetPoints.{SetPoints}
@@ -36,7 +37,7 @@ cylinderOf m = record {
 
 -- layer volume = volume / layers, of every layer
 abbrev pub volumesOf : TankDesign → List Float
-volumesOf m = replicate 32 (m .volume ⊘ whole (m .layers))
+volumesOf m = replicate maxLayers (m .volume ⊘ whole (m .layers))
 
 -- ---- a heater, given as h
 

@@ -16,6 +16,7 @@ use Rattle.numeric.specs.Close.{wideClose}
 use Rattle.numeric.specs.Tabulate.{tabulate}
 use Rattle.numeric.specs.Sum2.{sum2}
 use Rattle.mixing.specs.Rearrange.{Mixing, sorted, unsorted, afterRounds}
+use Rattle.mixing.specs.Limits.{maxLayers}
 use Rattle.draw_off.specs.declared.cold.Feed.{Feed}
 use Rattle.draw_off.specs.Draw.{extract, volumeUsed}
 use Rattle.refill.specs.Refill.{refill}
@@ -23,6 +24,7 @@ use Rattle.draw_events.specs.Event.{Event, unmixed, mixed}
 use Rattle.heating.specs.Heat.{offersTo, heated}
 use Rattle.thermal_losses.specs.Losses.{tempsAfter, chargedAfter, surplus, losses}
 use Rattle.immersion_heater.specs.Offer.{offer}
+use Rattle.working_order.specs.Order.{maxHeaters}
 use Rattle.tank_model.specs.declared.TankDesign.{TankDesign}
 use Rattle.tank_model.specs.declared.Step.{Step}
 use Rattle.tank_model.specs.declared.HeaterLine.{HeaterLine}
@@ -180,9 +182,9 @@ pub record Averages (m : TankDesign) (s : DrawOff) (x : Float) : Type 0 where
 pub record TurnsOpen (st : State) (d : DrawOff) (s : Heating) : Type 0 where
   pub temps : s .temps ≡ d .temps
   pub flags : s .flags ≡ st .flags
-  pub charged : s .charged ≡ replicate 32 zero-f
+  pub charged : s .charged ≡ replicate maxLayers zero-f
   pub losses : s .losses ≡ zero-f
-  pub lines : s .lines ≡ replicate 8 (record { flag = false; adjusted = zero-f; supplied = zero-f; losses = zero-f; rounds = 0 })
+  pub lines : s .lines ≡ replicate maxHeaters (record { flag = false; adjusted = zero-f; supplied = zero-f; losses = zero-f; rounds = 0 })
 
 -- the heaters' losses × 0.75
 abbrev pub recoverableOf : Heating → Float

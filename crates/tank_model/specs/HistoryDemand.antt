@@ -10,7 +10,9 @@ use lib.ListN.{length, getD, take, replicate}
 use lib.Ieee.{Float, nan, le, eq}
 use Rattle.numeric.specs.Double.{zero-f}
 use Rattle.mixing.specs.Rearrange.{Mixing, sorted, unsorted}
+use Rattle.mixing.specs.Limits.{maxLayers}
 use Rattle.draw_events.specs.Event.{EventMixing, unmixed, mixed, Event}
+use Rattle.working_order.specs.Order.{maxHeaters}
 use Rattle.tank_model.specs.declared.TankDesign.{TankDesign}
 use Rattle.tank_model.specs.Fixed.{State, fixedOf}
 use Rattle.tank_model.specs.Order.{workingOrder}
@@ -84,9 +86,9 @@ OnSince h ws = (i : ℕ) × InTurn Began h (getD ws i noWork) × ((j : ℕ) → 
 -- the list begins with each layer at make's initial temperature, unused places zero, and every flag off
 pub record Starts (m : TankDesign) (st : State) : Type 0 where
   pub layers : (k : ℕ) → k < m .layers → getD (st .temps) k nan ≡ m .initial
-  pub unused : (k : ℕ) → m .layers ≤ k → k < 32 → getD (st .temps) k nan ≡ zero-f
-  pub places : length (st .temps) ≡ 32
-  pub flags : st .flags ≡ replicate 8 false
+  pub unused : (k : ℕ) → m .layers ≤ k → k < maxLayers → getD (st .temps) k nan ≡ zero-f
+  pub places : length (st .temps) ≡ maxLayers
+  pub flags : st .flags ≡ replicate maxHeaters false
 
 -- a call that came to this end leaves y: an accepted one exactly its layers and flags, a refused one the state as it was; and no step changes the design
 abbrev pub CarriesState : State → End Outcome → State → Type 0

@@ -4,13 +4,14 @@ use Prim.Native.Nat.{_+_, _*_, _-_, _≤_}
 use native.Mathlib.Omega.{arith}
 use Rattle.job_lines.specs.Put.{Put, put-nothing, put-then, put-length}
 use Rattle.job_lines.specs.Lines.{joined, joined-more}
+use Rattle.job_history.specs.Lengths.{turnBytes}
 use Rattle.job_history.specs.Lines.{lineAt, turnLines}
 use borrow.Author.Needs.{needs}
 use Rattle.job_history.proofs.lines.put_turn_lines.Statement.{statement}
 use Rattle.job_history.proofs.lines.put_turn_lines.Tie as tie
 
 abbrev Inv-loop : tie.InvT-loop
-Inv-loop buf₀ at count facts a₀ k₀ buf a k = (k ≤ count) × (a ≤ at + 171 * k) × Put buf₀ at (joined (lineAt facts) k) buf a
+Inv-loop buf₀ at count facts a₀ k₀ buf a k = (k ≤ count) × (a ≤ at + turnBytes * k) × Put buf₀ at (joined (lineAt facts) k) buf a
 
 abbrev μ-loop : tie.MeasureT-loop
 μ-loop buf₀ at count facts a₀ k₀ buf a k = count - k
