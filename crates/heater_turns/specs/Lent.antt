@@ -19,9 +19,9 @@ use Rattle.tank_model.specs.Fixed.{placed, immersed, placedHeaters, Fixed}
 use Rattle.tank_model.specs.Checks.{noSetting}
 use Rattle.tank_model.specs.Run.{End, endBy, Run, run}
 use Rattle.tank_model.specs.Work.{Heating, Turn, afterTurn, workTurn}
-use Rattle.tank_arrays.specs.Arrays.{fittedIn, linesIn}
+use Rattle.tank_arrays.specs.Arrays.{fittedIn, linesIn, HoldsLines}
 use Rattle.heater_turns.specs.declared.TurnsAnswer.{TurnsAnswer}
-use Rattle.heater_turns.specs.Notes.{Notes, withTurn, withTurns}
+use Rattle.heater_turns.specs.Notes.{Notes, notesIn, withTurn, withTurns}
 
 -- the heater x in a tank of n layers
 abbrev pub immersion : ℕ → Heater → Immersion
@@ -60,6 +60,38 @@ pub record OrderOf (n : ℕ) (order : List ℕ) : Type 0 where
   pub places : length order ≡ maxHeaters
   pub below : (k : ℕ) → k < n → getD order k 0 < n
 
+-- the arrays that turns are worked in
+pub record TurnArrays : Type 0 where
+  pub temps : List Float
+  pub charged : List Float
+  pub on : List Bool
+  pub figures : List Float
+  pub flags : List Bool
+  pub rounds : List ℕ
+  pub course : List Float
+  pub ran : List Bool
+
+abbrev pub turnArrays : List Float → List Float → List Bool → List Float → List Bool → List ℕ → List Float → List Bool → TurnArrays
+turnArrays temps charged on figures flags rounds course ran = record {
+  temps = temps;
+  charged = charged;
+  on = on;
+  figures = figures;
+  flags = flags;
+  rounds = rounds;
+  course = course;
+  ran = ran;
+}
+
+abbrev pub heatingAt : TurnArrays → TurnsAnswer → Heating
+heatingAt x s = heatingIn (x .temps) (x .charged) (x .on) s (x .figures) (x .flags) (x .rounds)
+
+abbrev pub notesAt : TurnArrays → Notes
+notesAt x = notesIn (x .figures) (x .flags) (x .rounds) (x .course) (x .ran)
+
+abbrev pub LinesHeld : TurnArrays → Type 0
+LinesHeld x = HoldsLines (x .figures) (x .flags) (x .rounds)
+
 -- ---- turns that are worked
 
 -- the turn of the immersion heater i, given as h, with these set points
@@ -81,6 +113,13 @@ pub record TurnWorked (c : Cylinder) (u : Turn) (s : Heating) (x : Notes) (numbe
   pub leaves : s' ≡ afterTurn (u .heater) (u .turned) s
   pub notes : x' ≡ withTurn u x
 
+-- the turn of the immersion heater i, given as h, is worked in these arrays, after the turns of s
+pub record TurnWorkedIn (c : Cylinder) (vol : List Float) (i : Immersion) (h : ℕ) (p : SetPoints) (s : TurnsAnswer) (before : TurnArrays)
+    (r : TurnsAnswer) (after : TurnArrays) : Type 0 where
+  pub works : TurnWorked c (turnFrom c vol i h p (heatingAt before s)) (heatingAt before s) (notesAt before) (r .number) (heatingAt after r) (notesAt after)
+  pub counts : r .worked ≡ s .worked + 1
+  pub holds : LinesHeld after
+
 -- where turns ended, how many there were, and what they wrote
 pub record TurnsEnd : Type 0 where
   pub end : End Heating
@@ -95,3 +134,8 @@ turnsBy n x r = record { end = r .end; worked = n + length (r .parts); notes = w
 abbrev pub TurnsWorked : Fixed → List Setting → List ℕ → Heating → Notes → TurnsAnswer → Heating → Notes → Type 0
 TurnsWorked f settings hs s x r s' x' =
     turnsBy 0 x (run (workTurn f (pointsIn settings)) hs s) ≡ record { end = endBy (r .number) s'; worked = r .worked; notes = x' }
+
+-- and are worked in these arrays
+pub record TurnsWorkedIn (f : Fixed) (settings : List Setting) (hs : List ℕ) (before : TurnArrays) (r : TurnsAnswer) (after : TurnArrays) : Type 0 where
+  pub works : TurnsWorked f settings hs (heatingAt before noTurns) (notesAt before) r (heatingAt after r) (notesAt after)
+  pub holds : LinesHeld after

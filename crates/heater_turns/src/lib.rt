@@ -1,13 +1,12 @@
 // The heaters' turns of a step, in working order, each on the layers left by the one before.
 ghost use mathlib.Core.Path.{_≡_};
-ghost use Prim.Native.Nat.{_+_, _≤_, _<_};
+ghost use Prim.Native.Nat.{_≤_, _<_};
 ghost use lib.ListN.{take};
 ghost use Rattle.mixing.specs.Limits.{maxLayers};
 ghost use Rattle.working_order.specs.Order.{maxHeaters};
 ghost use Rattle.tank_model.specs.Order.{workingOrder};
 ghost use Rattle.tank_arrays.specs.Arrays.{settingsIn, HoldsLines};
-ghost use Rattle.heater_turns.specs.Notes.{notesIn};
-ghost use Rattle.heater_turns.specs.Lent.{immersion, fixedLent, noTurns, heatingIn, turnFrom, CanHeat, OrderOf, TurnWorked, TurnsWorked};
+ghost use Rattle.heater_turns.specs.Lent.{immersion, fixedLent, noTurns, CanHeat, OrderOf, turnArrays, TurnWorkedIn, TurnsWorkedIn};
 use cylinder::Cylinder;
 use mixing::limits::MAX_LAYERS;
 use set_points::SetPoints;
@@ -56,16 +55,12 @@ fn heat_turn(
 ) -> TurnsAnswer
     requires { ⌜ (1 ≤ c .layers) × (c .layers ≤ maxLayers) × (h < maxHeaters) × (s .worked < maxHeaters)
         × HoldsLines (now figures) (now flags) (now rounds) ⌝ }
-    ensures { λ r. ⌜ TurnWorked c
-        (turnFrom c (now (vol .entry)) (immersion (c .layers) x) h p
-        (heatingIn (now (temps .entry)) (now (charged .entry)) (now (on .entry)) s (now (figures .entry)) (now (flags .entry)) (now (rounds .entry))))
-        (heatingIn (now (temps .entry)) (now (charged .entry)) (now (on .entry)) s (now (figures .entry)) (now (flags .entry)) (now (rounds .entry)))
-        (notesIn (now (figures .entry)) (now (flags .entry)) (now (rounds .entry)) (now (course .entry)) (now (ran .entry)))
-        (r .number)
-        (heatingIn (now (temps .exit)) (now (charged .exit)) (now (on .exit)) r (now (figures .exit)) (now (flags .exit)) (now (rounds .exit)))
-        (notesIn (now (figures .exit)) (now (flags .exit)) (now (rounds .exit)) (now (course .exit)) (now (ran .exit)))
-        × (r .worked ≡ s .worked + 1)
-        × HoldsLines (now (figures .exit)) (now (flags .exit)) (now (rounds .exit)) ⌝ }
+    ensures { λ r. ⌜ TurnWorkedIn c (now (vol .entry)) (immersion (c .layers) x) h p s
+        (turnArrays (now (temps .entry)) (now (charged .entry)) (now (on .entry)) (now (figures .entry)) (now (flags .entry)) (now (rounds .entry))
+        (now (course .entry)) (now (ran .entry)))
+        r
+        (turnArrays (now (temps .exit)) (now (charged .exit)) (now (on .exit)) (now (figures .exit)) (now (flags .exit)) (now (rounds .exit))
+        (now (course .exit)) (now (ran .exit))) ⌝ }
 {
     let i = tank_arrays::heaters::immersion_of(c.layers, x);
     let thermostat = i.thermostat;
@@ -109,15 +104,14 @@ fn heat_in_order(
     ran: &mut [bool; MAX_HEATERS],
 ) -> TurnsAnswer
     requires { ⌜ CanHeat c n × OrderOf n (now order) × HoldsLines (now figures) (now flags) (now rounds) ⌝ }
-    ensures { λ r. ⌜ TurnsWorked (fixedLent c (now (vol .entry)) n (now (heaters .entry)) (now (thermostats .entry)))
+    ensures { λ r. ⌜ TurnsWorkedIn (fixedLent c (now (vol .entry)) n (now (heaters .entry)) (now (thermostats .entry)))
         (settingsIn (now (present .entry)) (now (points .entry)))
         (take n (now (order .entry)))
-        (heatingIn (now (temps .entry)) (now (charged .entry)) (now (on .entry)) noTurns (now (figures .entry)) (now (flags .entry)) (now (rounds .entry)))
-        (notesIn (now (figures .entry)) (now (flags .entry)) (now (rounds .entry)) (now (course .entry)) (now (ran .entry)))
+        (turnArrays (now (temps .entry)) (now (charged .entry)) (now (on .entry)) (now (figures .entry)) (now (flags .entry)) (now (rounds .entry))
+        (now (course .entry)) (now (ran .entry)))
         r
-        (heatingIn (now (temps .exit)) (now (charged .exit)) (now (on .exit)) r (now (figures .exit)) (now (flags .exit)) (now (rounds .exit)))
-        (notesIn (now (figures .exit)) (now (flags .exit)) (now (rounds .exit)) (now (course .exit)) (now (ran .exit)))
-        × HoldsLines (now (figures .exit)) (now (flags .exit)) (now (rounds .exit)) ⌝ }
+        (turnArrays (now (temps .exit)) (now (charged .exit)) (now (on .exit)) (now (figures .exit)) (now (flags .exit)) (now (rounds .exit))
+        (now (course .exit)) (now (ran .exit))) ⌝ }
 {
     let mut s = no_turns();
     let mut k = 0;
@@ -168,15 +162,14 @@ pub fn heat_turns(
     ran: &mut [bool; MAX_HEATERS],
 ) -> TurnsAnswer
     requires { ⌜ CanHeat c n × HoldsLines (now figures) (now flags) (now rounds) ⌝ }
-    ensures { λ r. ⌜ TurnsWorked (fixedLent c (now (vol .entry)) n (now (heaters .entry)) (now (thermostats .entry)))
+    ensures { λ r. ⌜ TurnsWorkedIn (fixedLent c (now (vol .entry)) n (now (heaters .entry)) (now (thermostats .entry)))
         (settingsIn (now (present .entry)) (now (points .entry)))
         (workingOrder (fixedLent c (now (vol .entry)) n (now (heaters .entry)) (now (thermostats .entry))))
-        (heatingIn (now (temps .entry)) (now (charged .entry)) (now (on .entry)) noTurns (now (figures .entry)) (now (flags .entry)) (now (rounds .entry)))
-        (notesIn (now (figures .entry)) (now (flags .entry)) (now (rounds .entry)) (now (course .entry)) (now (ran .entry)))
+        (turnArrays (now (temps .entry)) (now (charged .entry)) (now (on .entry)) (now (figures .entry)) (now (flags .entry)) (now (rounds .entry))
+        (now (course .entry)) (now (ran .entry)))
         r
-        (heatingIn (now (temps .exit)) (now (charged .exit)) (now (on .exit)) r (now (figures .exit)) (now (flags .exit)) (now (rounds .exit)))
-        (notesIn (now (figures .exit)) (now (flags .exit)) (now (rounds .exit)) (now (course .exit)) (now (ran .exit)))
-        × HoldsLines (now (figures .exit)) (now (flags .exit)) (now (rounds .exit)) ⌝ }
+        (turnArrays (now (temps .exit)) (now (charged .exit)) (now (on .exit)) (now (figures .exit)) (now (flags .exit)) (now (rounds .exit))
+        (now (course .exit)) (now (ran .exit))) ⌝ }
 {
     let order = working_order::working_order(n, heaters);
     heat_in_order(

@@ -6,9 +6,8 @@ ghost use lib.ListN.{getD, length};
 ghost use Rattle.working_order.specs.Order.{maxHeaters};
 ghost use Rattle.tank_arrays.specs.Arrays.{lineIn};
 ghost use Rattle.heater_turns.specs.Notes.{notesIn};
-ghost use Rattle.storage_tank.specs.Calls.{stepped};
 ghost use Rattle.job_history.specs.Facts.{stepTurns, noFact, turnsOf};
-ghost use Rattle.job_history.specs.Lent.{factBy, factsIn, NotedTurns};
+ghost use Rattle.job_history.specs.Lent.{factBy, factsIn, NotedTurns, TurnsTold, StepTold};
 use crate::ToldStep;
 use crate::TurnFact;
 use crate::Turns;
@@ -85,10 +84,9 @@ fn facts_in_order(
     ran: &[bool; MAX_HEATERS],
 ) -> Turns
     requires { ⌜ (count ≤ maxHeaters) × (length (now order) ≡ maxHeaters) × ((k : ℕ) → k < count → getD (now order) k 0 < maxHeaters) ⌝ }
-    ensures { λ r. ⌜ (r ≡ turnsOf (factsIn settings
+    ensures { λ r. ⌜ TurnsTold (factsIn settings
         (notesIn (now (figures .entry)) (now (flags .entry)) (now (rounds .entry)) (now (course .entry)) (now (ran .entry)))
-        count (now (order .entry))))
-        × (r .count ≡ count) ⌝ }
+        count (now (order .entry))) r ⌝ }
 {
     let mut r = no_turns();
     let mut k = 0;
@@ -114,7 +112,7 @@ fn turns_told(
     ran: &[bool; MAX_HEATERS],
 ) -> Turns
     requires { ⌜ NotedTurns t a count (notesIn (now figures) (now flags) (now rounds) (now course) (now ran)) ⌝ }
-    ensures { λ r. ⌜ (r ≡ turnsOf (stepTurns t a)) × (r .count ≤ maxHeaters) ⌝ }
+    ensures { λ r. ⌜ TurnsTold (stepTurns t a) r ⌝ }
 {
     if count == 0 {
         return no_turns();
@@ -128,7 +126,7 @@ fn turns_told(
 
 // Steps a tank, for any numbers, and tells the step's turns: none where it is refused before its first.
 pub fn told_step(t: StorageTank, report: Report, a: Step) -> ToldStep
-    ensures { λ r. ⌜ (r .stepped ≡ stepped t report a) × (r .turns ≡ turnsOf (stepTurns t a)) × (r .turns .count ≤ maxHeaters) ⌝ }
+    ensures { λ r. ⌜ StepTold t report a r ⌝ }
 {
     let mut figures = [0.0; THREE_EACH];
     let mut flags = [false; MAX_HEATERS];

@@ -1,10 +1,8 @@
 // The lines of a step's history.
-ghost use mathlib.Core.Path.{_≡_};
 ghost use Prim.Native.Nat.{_+_, _*_, _≤_};
-ghost use lib.ListN.{length};
 ghost use Rattle.working_order.specs.Order.{maxHeaters};
-ghost use Rattle.job_lines.specs.Put.{Put, written};
-ghost use Rattle.job_lines.specs.Lengths.{headBytes, maxText, maxPlace};
+ghost use Rattle.job_lines.specs.Put.{PutWithin, PutWhole};
+ghost use Rattle.job_lines.specs.Lengths.{headBytes, maxPlace};
 ghost use Rattle.job_history.specs.Lines.{missingText, pointsText, courseText, outcomeText, turnLine, turnLines, historyLines};
 ghost use Rattle.job_history.specs.Lengths.{missingBytes, pointsBytes, courseBytes, outcomeBytes, turnBytes};
 use crate::TurnFact;
@@ -18,7 +16,7 @@ use working_order::MAX_HEATERS;
 // A space and a hyphen.
 fn put_missing(buf: &mut [u8], at: usize) -> usize
     requires { ⌜ at + missingBytes ≤ maxPlace ⌝ }
-    ensures { λ r. ⌜ (Put (now (buf .entry)) at missingText (now (buf .exit)) r) × (r ≤ at + missingBytes) ⌝ }
+    ensures { λ r. ⌜ PutWithin (now (buf .entry)) at missingText missingBytes (now (buf .exit)) r ⌝ }
 {
     let a = put_byte(buf, at, b' ');
     put_byte(buf, a, b'-')
@@ -26,7 +24,7 @@ fn put_missing(buf: &mut [u8], at: usize) -> usize
 
 fn put_points(buf: &mut [u8], at: usize, p: SetPoints) -> usize
     requires { ⌜ at + pointsBytes ≤ maxPlace ⌝ }
-    ensures { λ r. ⌜ (Put (now (buf .entry)) at (pointsText p) (now (buf .exit)) r) × (r ≤ at + pointsBytes) ⌝ }
+    ensures { λ r. ⌜ PutWithin (now (buf .entry)) at (pointsText p) pointsBytes (now (buf .exit)) r ⌝ }
 {
     match p {
         SetPoints::Neither => {
@@ -51,7 +49,7 @@ fn put_points(buf: &mut [u8], at: usize, p: SetPoints) -> usize
 // T, the heater, its thermostat layer at the begin and at the end, and its set points.
 fn put_course(buf: &mut [u8], at: usize, x: TurnFact) -> usize
     requires { ⌜ at + courseBytes ≤ maxPlace ⌝ }
-    ensures { λ r. ⌜ (Put (now (buf .entry)) at (courseText x) (now (buf .exit)) r) × (r ≤ at + courseBytes) ⌝ }
+    ensures { λ r. ⌜ PutWithin (now (buf .entry)) at (courseText x) courseBytes (now (buf .exit)) r ⌝ }
 {
     let a = put_byte(buf, at, b'T');
     let b = put_number(buf, a, x.heater);
@@ -64,7 +62,7 @@ fn put_course(buf: &mut [u8], at: usize, x: TurnFact) -> usize
 // Whether the heater ran, its flag, its supply and the rounds of its mixing, and the line's end.
 fn put_outcome(buf: &mut [u8], at: usize, x: TurnFact) -> usize
     requires { ⌜ at + outcomeBytes ≤ maxPlace ⌝ }
-    ensures { λ r. ⌜ (Put (now (buf .entry)) at (outcomeText x) (now (buf .exit)) r) × (r ≤ at + outcomeBytes) ⌝ }
+    ensures { λ r. ⌜ PutWithin (now (buf .entry)) at (outcomeText x) outcomeBytes (now (buf .exit)) r ⌝ }
 {
     let a = put_number(buf, at, job_lines::lines::flag_number(x.ran));
     let b = put_number(buf, a, job_lines::lines::flag_number(x.flag));
@@ -75,7 +73,7 @@ fn put_outcome(buf: &mut [u8], at: usize, x: TurnFact) -> usize
 
 fn put_turn_line(buf: &mut [u8], at: usize, x: TurnFact) -> usize
     requires { ⌜ at + turnBytes ≤ maxPlace ⌝ }
-    ensures { λ r. ⌜ (Put (now (buf .entry)) at (turnLine x) (now (buf .exit)) r) × (r ≤ at + turnBytes) ⌝ }
+    ensures { λ r. ⌜ PutWithin (now (buf .entry)) at (turnLine x) turnBytes (now (buf .exit)) r ⌝ }
 {
     let a = put_course(buf, at, x);
     put_outcome(buf, a, x)
@@ -84,7 +82,7 @@ fn put_turn_line(buf: &mut [u8], at: usize, x: TurnFact) -> usize
 // The lines of the first `count` turns.
 fn put_turn_lines(buf: &mut [u8], at: usize, count: usize, facts: [TurnFact; MAX_HEATERS]) -> usize
     requires { ⌜ (count ≤ maxHeaters) × (at ≤ headBytes + 1) ⌝ }
-    ensures { λ r. ⌜ (Put (now (buf .entry)) at (turnLines count facts) (now (buf .exit)) r) × (r ≤ at + turnBytes * count) ⌝ }
+    ensures { λ r. ⌜ PutWithin (now (buf .entry)) at (turnLines count facts) (turnBytes * count) (now (buf .exit)) r ⌝ }
 {
     let mut a = at;
     let mut k = 0;
@@ -98,9 +96,7 @@ fn put_turn_lines(buf: &mut [u8], at: usize, count: usize, facts: [TurnFact; MAX
 
 pub fn history_lines(buf: &mut [u8], index: usize, number: u8, r: Turns) -> usize
     requires { ⌜ r .count ≤ maxHeaters ⌝ }
-    ensures { λ n. ⌜ (n ≡ length (historyLines index number r))
-        × (now (buf .exit) ≡ written (now (buf .entry)) (historyLines index number r))
-        × (n ≤ maxText) ⌝ }
+    ensures { λ n. ⌜ PutWhole (historyLines index number r) (now (buf .entry)) (now (buf .exit)) n ⌝ }
 {
     let a = job_lines::lines::put_head(buf, index, number);
     let b = put_byte(buf, a, b'\n');

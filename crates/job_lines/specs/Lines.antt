@@ -1,5 +1,5 @@
 -- States the lines that a job prints (01, Job): S, L and H of a step, and E of a refusal outside a step.
-use Prim.Native.Nat.{ℕ, zero, suc, _+_}
+use Prim.Native.Nat.{ℕ, zero, suc, _+_, _≤_}
 use native.Mathlib.Numerals.{add-one}
 use mathlib.Core.Path.{_≡_}
 use mathlib.Core.Bool.{false, cond}
@@ -15,6 +15,11 @@ use Rattle.job_lines.specs.Text.{newline, numberText, doubleText}
 -- a count of places, of which there are no more than `most`
 unfoldable pub atMost : ℕ → ℕ → ℕ
 atMost n most = cond (leb n most) n most
+
+-- r is that count
+pub record CutTo (most n r : ℕ) : Type 0 where
+  pub is : r ≡ atMost n most
+  pub within : r ≤ most
 
 -- the first n texts, one after the other
 unfoldable pub joined : (ℕ → List ℕ) → ℕ → List ℕ

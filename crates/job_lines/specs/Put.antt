@@ -13,13 +13,20 @@ abbrev pub written : List ℕ → List ℕ → List ℕ
 written buffer text = take (length buffer) text ++ drop (length text) buffer
 
 -- r is the length of a record's whole text, which is never long, and the buffer holds the text as far as it fits
-abbrev pub PutWhole : List ℕ → List ℕ → List ℕ → ℕ → Type 0
-PutWhole text before after r = (r ≡ length text) × (after ≡ written before text) × (r ≤ maxText)
+pub record PutWhole (text before after : List ℕ) (r : ℕ) : Type 0 where
+  pub ends : r ≡ length text
+  pub stands : after ≡ written before text
+  pub short : r ≤ maxText
 
 -- the text stands in the buffer from a place on, and `next` is the place after it
 pub record Put (before : List ℕ) (at : ℕ) (text after : List ℕ) (next : ℕ) : Type 0 where
   pub stands : after ≡ sets before at text
   pub ends : next ≡ at + length text
+
+-- and the text has at most `most` bytes
+pub record PutWithin (before : List ℕ) (at : ℕ) (text : List ℕ) (most : ℕ) (after : List ℕ) (next : ℕ) : Type 0 where
+  pub puts : Put before at text after next
+  pub within : next ≤ at + most
 
 pub sets-append : (b : List ℕ) (at : ℕ) (t u : List ℕ) → sets b at (t ++ u) ≡ sets (sets b at t) (at + length t) u
 sets-append b at [] u = rw add-zero
@@ -54,8 +61,8 @@ sets-written (x ∷ b) [] = refl
 sets-written (x ∷ b) (a ∷ t) = sets-behind a b 0 t ∙ ap (λ (l : List ℕ). a ∷ l) (sets-written b t)
 
 -- a text put at the first place
-pub put-first : {b t c : List ℕ} {i : ℕ} → Put b 0 t c i → (i ≡ length t) × (c ≡ written b t)
-put-first {b} {t} p = (let e = p .ends in omega arith, p .stands ∙ sets-written b t)
+pub put-whole : {b t c : List ℕ} {i : ℕ} → Put b 0 t c i → i ≤ maxText → PutWhole t b c i
+put-whole {b} {t} p l = record { ends = let e = p .ends in omega arith; stands = p .stands ∙ sets-written b t; short = l }
 
 pub written-nothing : (b : List ℕ) → written b [] ≡ b
 written-nothing b = rw take-nil

@@ -1,5 +1,5 @@
 -- States the text of numbers (01, Job): decimals, and doubles as the 16 lowercase hexadecimal digits of their bits, each after a space.
-use Prim.Native.Nat.{ℕ, zero, suc, _+_, _/_, _%_}
+use Prim.Native.Nat.{ℕ, zero, suc, _+_, _/_, _%_, _≤_}
 use mathlib.Core.Bool.{cond}
 use mathlib.Core.Path.{_≡_, refl}
 use mathlib.Core.List.{List, [], _∷_, _++_}
@@ -22,6 +22,11 @@ widthFrom (suc fuel) k rest = cond (eqb rest 0) k (widthFrom fuel (k + 1) (rest 
 
 unfoldable pub widthOf : ℕ → ℕ
 widthOf n = widthFrom 19 1 (n / 10)
+
+-- n has r decimal digits
+pub record Width (n r : ℕ) : Type 0 where
+  pub is : r ≡ widthOf n
+  pub few : r ≤ 20
 
 abbrev pub space : ℕ
 space = 32

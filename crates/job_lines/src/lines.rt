@@ -5,9 +5,9 @@ ghost use Prim.Native.Nat.{ℕ, _+_, _*_, _≤_, _<_};
 ghost use lib.ListN.{getD};
 ghost use Rattle.mixing.specs.Limits.{maxLayers};
 ghost use Rattle.working_order.specs.Order.{maxHeaters};
-ghost use Rattle.job_lines.specs.Put.{Put, PutWhole};
+ghost use Rattle.job_lines.specs.Put.{PutWithin, PutWhole};
 ghost use Rattle.job_lines.specs.Lengths.{doubleBytes, headBytes, totalsBytes, layersBytes, heaterBytes, beforeHeaters, maxText};
-ghost use Rattle.job_lines.specs.Lines.{atMost, headText, totalsText, layersText, layersLine, heaterLine, heaterLines};
+ghost use Rattle.job_lines.specs.Lines.{CutTo, headText, totalsText, layersText, layersLine, heaterLine, heaterLines};
 ghost use Rattle.job_lines.specs.Lines.{refusalLine, refusedLines, acceptedLines};
 use crate::Totals;
 use crate::text::put_byte;
@@ -19,7 +19,7 @@ use working_order::MAX_HEATERS;
 
 // There are no more places than `most`, whatever a count says.
 pub fn at_most(n: usize, most: usize) -> usize
-    ensures { λ r. ⌜ (r ≡ atMost n most) × (r ≤ most) ⌝ }
+    ensures { λ r. ⌜ CutTo most n r ⌝ }
 {
     if n <= most { n } else { most }
 }
@@ -32,7 +32,7 @@ pub fn flag_number(flag: bool) -> usize
 
 // S, the step's index and its number, the line not ended.
 pub fn put_head(buf: &mut [u8], index: usize, number: u8) -> usize
-    ensures { λ r. ⌜ (Put (now (buf .entry)) 0 (headText index number) (now (buf .exit)) r) × (r ≤ headBytes) ⌝ }
+    ensures { λ r. ⌜ PutWithin (now (buf .entry)) 0 (headText index number) headBytes (now (buf .exit)) r ⌝ }
 {
     let a = put_byte(buf, 0, b'S');
     let b = put_number(buf, a, index);
@@ -42,7 +42,7 @@ pub fn put_head(buf: &mut [u8], index: usize, number: u8) -> usize
 // The four totals, and the line's end.
 fn put_totals(buf: &mut [u8], at: usize, totals: Totals) -> usize
     requires { ⌜ at ≤ headBytes ⌝ }
-    ensures { λ r. ⌜ (Put (now (buf .entry)) at (totalsText totals) (now (buf .exit)) r) × (r ≤ at + totalsBytes) ⌝ }
+    ensures { λ r. ⌜ PutWithin (now (buf .entry)) at (totalsText totals) totalsBytes (now (buf .exit)) r ⌝ }
 {
     let a = put_double(buf, at, totals.energy);
     let b = put_double(buf, a, totals.used);
@@ -54,7 +54,7 @@ fn put_totals(buf: &mut [u8], at: usize, totals: Totals) -> usize
 // The first n layers, each after a space.
 fn put_layers(buf: &mut [u8], at: usize, n: usize, temps: &[f64; MAX_LAYERS]) -> usize
     requires { ⌜ (n ≤ maxLayers) × (at ≤ headBytes + totalsBytes + 1) ⌝ }
-    ensures { λ r. ⌜ (Put (now (buf .entry)) at (layersText n (now (temps .entry))) (now (buf .exit)) r) × (r ≤ at + doubleBytes * n) ⌝ }
+    ensures { λ r. ⌜ PutWithin (now (buf .entry)) at (layersText n (now (temps .entry))) (doubleBytes * n) (now (buf .exit)) r ⌝ }
 {
     let mut a = at;
     let mut k = 0;
@@ -67,7 +67,7 @@ fn put_layers(buf: &mut [u8], at: usize, n: usize, temps: &[f64; MAX_LAYERS]) ->
 
 fn put_layers_line(buf: &mut [u8], at: usize, n: usize, temps: &[f64; MAX_LAYERS]) -> usize
     requires { ⌜ (n ≤ maxLayers) × (at ≤ headBytes + totalsBytes) ⌝ }
-    ensures { λ r. ⌜ (Put (now (buf .entry)) at (layersLine n (now (temps .entry))) (now (buf .exit)) r) × (r ≤ at + layersBytes) ⌝ }
+    ensures { λ r. ⌜ PutWithin (now (buf .entry)) at (layersLine n (now (temps .entry))) layersBytes (now (buf .exit)) r ⌝ }
 {
     let a = put_byte(buf, at, b'L');
     let b = put_layers(buf, a, n, temps);
@@ -76,7 +76,7 @@ fn put_layers_line(buf: &mut [u8], at: usize, n: usize, temps: &[f64; MAX_LAYERS
 
 fn put_heater_line(buf: &mut [u8], at: usize, line: HeaterLine) -> usize
     requires { ⌜ at ≤ maxText ⌝ }
-    ensures { λ r. ⌜ (Put (now (buf .entry)) at (heaterLine line) (now (buf .exit)) r) × (r ≤ at + heaterBytes) ⌝ }
+    ensures { λ r. ⌜ PutWithin (now (buf .entry)) at (heaterLine line) heaterBytes (now (buf .exit)) r ⌝ }
 {
     let a = put_byte(buf, at, b'H');
     let b = put_number(buf, a, flag_number(line.flag));
@@ -96,7 +96,7 @@ fn put_heater_lines(
     lines: [HeaterLine; MAX_HEATERS],
 ) -> usize
     requires { ⌜ (n ≤ maxHeaters) × (at ≤ beforeHeaters) × ((k : ℕ) → k < n → getD order k 0 < maxHeaters) ⌝ }
-    ensures { λ r. ⌜ (Put (now (buf .entry)) at (heaterLines n order lines) (now (buf .exit)) r) × (r ≤ at + heaterBytes * n) ⌝ }
+    ensures { λ r. ⌜ PutWithin (now (buf .entry)) at (heaterLines n order lines) (heaterBytes * n) (now (buf .exit)) r ⌝ }
 {
     let mut a = at;
     let mut k = 0;

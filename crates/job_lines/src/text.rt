@@ -4,8 +4,8 @@ ghost use mathlib.Core.List.{[], _∷_};
 ghost use Prim.Native.Nat.{_+_, _≤_, _<_};
 ghost use lib.ListN.{set};
 ghost use Rattle.job_lines.specs.Lengths.{numberBytes, doubleBytes, maxPlace};
-ghost use Rattle.job_lines.specs.Put.{Put};
-ghost use Rattle.job_lines.specs.Text.{digitOf, digits, widthOf, numberText, doubleText};
+ghost use Rattle.job_lines.specs.Put.{PutWithin};
+ghost use Rattle.job_lines.specs.Text.{digitOf, digits, Width, numberText, doubleText};
 
 // The decimal digits that a number can have.
 const MAX_WIDTH: usize = 20;
@@ -20,7 +20,7 @@ fn store(buf: &mut [u8], at: usize, b: u8)
 
 pub fn put_byte(buf: &mut [u8], at: usize, b: u8) -> usize
     requires { ⌜ at ≤ maxPlace ⌝ }
-    ensures { λ r. ⌜ (Put (now (buf .entry)) at (b ∷ []) (now (buf .exit)) r) × (r ≤ at + 1) ⌝ }
+    ensures { λ r. ⌜ PutWithin (now (buf .entry)) at (b ∷ []) 1 (now (buf .exit)) r ⌝ }
 {
     store(buf, at, b);
     at + 1
@@ -40,7 +40,7 @@ fn digit(d: u64) -> u8
 // The last `count` digits of n in a base, from the last one to the first.
 fn put_digits(buf: &mut [u8], at: usize, base: u64, count: usize, n: u64) -> usize
     requires { ⌜ (2 ≤ base) × (base ≤ 16) × (count ≤ 20) × (at ≤ maxPlace) ⌝ }
-    ensures { λ r. ⌜ (Put (now (buf .entry)) at (digits base count n) (now (buf .exit)) r) × (r ≤ at + count) ⌝ }
+    ensures { λ r. ⌜ PutWithin (now (buf .entry)) at (digits base count n) count (now (buf .exit)) r ⌝ }
 {
     let mut rest = n;
     let mut i = count;
@@ -54,7 +54,7 @@ fn put_digits(buf: &mut [u8], at: usize, base: u64, count: usize, n: u64) -> usi
 
 // How many decimal digits n has.
 fn width(n: u64) -> usize
-    ensures { λ r. ⌜ (r ≡ widthOf n) × (r ≤ 20) ⌝ }
+    ensures { λ r. ⌜ Width n r ⌝ }
 {
     let mut rest = n / 10;
     let mut k = 1;
@@ -71,7 +71,7 @@ fn width(n: u64) -> usize
 // A space and a number in decimal.
 pub fn put_number(buf: &mut [u8], at: usize, n: usize) -> usize
     requires { ⌜ at + numberBytes ≤ maxPlace ⌝ }
-    ensures { λ r. ⌜ (Put (now (buf .entry)) at (numberText n) (now (buf .exit)) r) × (r ≤ at + numberBytes) ⌝ }
+    ensures { λ r. ⌜ PutWithin (now (buf .entry)) at (numberText n) numberBytes (now (buf .exit)) r ⌝ }
 {
     let a = put_byte(buf, at, b' ');
     let bits = n as u64;
@@ -82,7 +82,7 @@ pub fn put_number(buf: &mut [u8], at: usize, n: usize) -> usize
 // A space and the 16 hexadecimal digits of a double's bits.
 pub fn put_double(buf: &mut [u8], at: usize, x: f64) -> usize
     requires { ⌜ at + doubleBytes ≤ maxPlace ⌝ }
-    ensures { λ r. ⌜ (Put (now (buf .entry)) at (doubleText x) (now (buf .exit)) r) × (r ≤ at + doubleBytes) ⌝ }
+    ensures { λ r. ⌜ PutWithin (now (buf .entry)) at (doubleText x) doubleBytes (now (buf .exit)) r ⌝ }
 {
     let a = put_byte(buf, at, b' ');
     let bits = numeric::bits::bits_of(x);

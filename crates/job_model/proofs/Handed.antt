@@ -69,7 +69,9 @@ pub handing-start : (f : Job → RecordRun) (size : ℕ) → Handing f size star
 handing-start f size = record { printing = printing-start f size; reached = reached-start f }
 
 pub handing-end : (f : Job → RecordRun) (size : ℕ) (j : Job) (taken : ℕ) → Handing f size j taken → j .ended ≡ true → Handed f size (record { job = j; taken = taken; failed = false })
-handing-end f size j taken h e = record { whole = λ _. printing-end f size j taken (h .printing) e; cut = λ g. absurd (true≢false (sym g)) }
+handing-end f size j taken h e =
+    let p = printing-end f size j taken (h .printing) e in
+    record { whole = λ _. record { ends = p .0; takes = p .1 }; cut = λ g. absurd (true≢false (sym g)) }
 
 -- the laws, of an f of any kind that moves as a record does
 module _ (f : Job → RecordRun) (size : ℕ) (moves : (j : Job) → Moves j size (f j)) where

@@ -10,7 +10,7 @@ use Rattle.numeric.specs.Holds.{both}
 use Rattle.job_lines.specs.Lengths.{maxText}
 use Rattle.job_model.specs.declared.Job.{Job}
 use Rattle.job_model.specs.Job.{RecordRun, followed}
-use Rattle.job_model.specs.Windows.{runReady, Stops}
+use Rattle.job_model.specs.Windows.{runReady, Stops, CutRecords}
 use Rattle.job_model.proofs.Moves.{Moves}
 use Rattle.job_model.proofs.Ends.{Within, recordsLeft, record-within, record-before, record-less}
 
@@ -82,8 +82,8 @@ module _ (f : Job → RecordRun) (ready : ℕ → Bool) where
         }
 
     -- they were not
-    pub running-cut : (more : ℕ) → more < length (f j .text) → (length (runReady f ready (r .records) j₀ .text) ≤ taken + more) × (taken + more < length (runReady f ready (suc (r .records)) j₀ .text))
-    running-cut more l = let c = r .counts in let n = longer in (omega arith, omega arith)
+    pub running-cut : (more : ℕ) → more < length (f j .text) → CutRecords f ready (r .records) j₀ (taken + more)
+    running-cut more l = let c = r .counts in let n = longer in record { before = omega arith; within = omega arith }
 
   -- however many records are run, the job stays within the window, and that where it is in the input
   pub run-within : (size : ℕ) → ((j : Job) → Moves j size (f j)) → (n : ℕ) (j : Job) → Within size j → Within size (runReady f ready n j .job) × (runReady f ready n j .job .before ≡ j .before)

@@ -28,9 +28,14 @@ pub record Cut (f : Job → RecordRun) (j : Job) (taken : ℕ) : Type 0 where
   pub before : length (firstRecords f records .text) ≤ taken
   pub within : taken < length (firstRecords f (suc records) .text)
 
--- where no write failed, the job has run to its end and its whole text was taken
+-- the job has run to its end, and its whole text was taken
+pub record Whole (f : Job → RecordRun) (size : ℕ) (j : Job) (taken : ℕ) : Type 0 where
+  pub ends : j ≡ runAll f size .job
+  pub takes : taken ≡ length (runAll f size .text)
+
+-- what became of a job: whole, where no write failed
 pub record Handed (f : Job → RecordRun) (size : ℕ) (r : Ran) : Type 0 where
-  pub whole : r .failed ≡ false → (r .job ≡ runAll f size .job) × (r .taken ≡ length (runAll f size .text))
+  pub whole : r .failed ≡ false → Whole f size (r .job) (r .taken)
   pub cut : r .failed ≡ true → Cut f (r .job) (r .taken)
 
 -- the first list begins the second

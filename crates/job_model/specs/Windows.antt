@@ -57,12 +57,22 @@ windowRecords f w last n j = runReady (f w) (isReady w last) n j
 abbrev pub windowRun : (List ℕ → Job → RecordRun) → List ℕ → Bool → Job → RecordRun
 windowRun f w last j = windowRecords f w last (length w + 1) j
 
--- a window's records were run, and their lines taken: all of them; or a write failed, and those of the next record were not taken to their end
+-- the lines of so many records were taken, and no other can be read here
+pub record WholeRecords (f : Job → RecordRun) (ready : ℕ → Bool) (records : ℕ) (j : Job) (taken : ℕ) : Type 0 where
+  pub takes : length (runReady f ready records j .text) ≡ taken
+  pub stops : Stops ready (runReady f ready records j)
+
+-- and those of the next record not to their end
+pub record CutRecords (f : Job → RecordRun) (ready : ℕ → Bool) (records : ℕ) (j : Job) (taken : ℕ) : Type 0 where
+  pub before : length (runReady f ready records j .text) ≤ taken
+  pub within : taken < length (runReady f ready (suc records) j .text)
+
+-- a window's records were run, and their lines taken: all of them; or a write failed
 pub record WindowHanded (f : Job → RecordRun) (ready : ℕ → Bool) (j : Job) (r : Ran) : Type 0 where
   pub records : ℕ
   pub goes : runReady f ready records j .job ≡ r .job
-  pub whole : r .failed ≡ false → (length (runReady f ready records j .text) ≡ r .taken) × Stops ready (runReady f ready records j)
-  pub cut : r .failed ≡ true → (length (runReady f ready records j .text) ≤ r .taken) × (r .taken < length (runReady f ready (suc records) j .text))
+  pub whole : r .failed ≡ false → WholeRecords f ready records j (r .taken)
+  pub cut : r .failed ≡ true → CutRecords f ready records j (r .taken)
 
 -- an input told window by window: where the job stands after some windows, and all that they printed; each window's bytes are those of the input from the
 -- next record on, and the last is so called only if nothing follows it

@@ -82,7 +82,7 @@ module _ (history : Bool) (held count : ℕ) (xs filled : List ℕ) (j : Job) (o
               keeps = take-take held end filled (omega arith) ∙ keeps;
               fits = let o = open-at .0 in omega arith;
               goes = rw (← s) (ap movedUp (sym (run .goes)));
-              stops = rw (← s) (run .whole whole .1);
+              stops = rw (← s) (run .whole whole .stops);
               stays = rw (← s) (ap (λ (i : Job). i .before) (run .goes) ∙ ran-within .2);
               within = rw (← s, at-job) (omega arith);
               leaves = rw (← s, at-job) first;

@@ -8,9 +8,8 @@ ghost use lib.ListN.{getD};
 ghost use Rattle.numeric.specs.Double.{_⊘_, zero-f};
 ghost use Rattle.numeric.specs.Close.{wideClose};
 ghost use Rattle.mixing.specs.Limits.{maxLayers};
-ghost use Rattle.tank_arrays.specs.Arrays.{HoldsLines, ZeroLines, fixedFor, stepFor};
-ghost use Rattle.heater_turns.specs.Notes.{notesIn};
-ghost use Rattle.step_work.specs.Lent.{StepWorked};
+ghost use Rattle.tank_arrays.specs.Arrays.{ZeroLines, fixedFor, stepFor};
+ghost use Rattle.step_work.specs.Lent.{RefusedAfter, stepArrays, StepWorkedIn};
 use draw_events::Totals;
 use draw_events::event::MAX_EVENTS;
 use draw_off::cold::Feed;
@@ -51,7 +50,7 @@ pub struct WorkAnswer {
 
 // Nothing but the number and the turns is looked at.
 fn refused(number: u8, turns: usize) -> WorkAnswer
-    ensures { λ r. ⌜ (r .number ≡ number) × (r .turns ≡ turns) ⌝ }
+    ensures { λ r. ⌜ RefusedAfter number turns r ⌝ }
 {
     WorkAnswer {
         number,
@@ -80,13 +79,13 @@ pub fn work_step(
     ran: &mut [bool; MAX_HEATERS],
 ) -> WorkAnswer
     requires { ⌜ ZeroLines (now figures) (now flags) (now rounds) ⌝ }
-    ensures { λ r. ⌜ StepWorked (fixedFor q (now (heaters .entry)) (now (thermostats .entry)))
-        (record { temps = now (temps .entry); flags = now (on .entry) })
+    ensures { λ r. ⌜ StepWorkedIn (fixedFor q (now (heaters .entry)) (now (thermostats .entry)))
         (stepFor q (now (volumes .entry)) (now (present .entry)) (now (points .entry)))
-        r (now (temps .exit)) (now (on .exit))
-        (notesIn (now (figures .entry)) (now (flags .entry)) (now (rounds .entry)) (now (course .entry)) (now (ran .entry)))
-        (notesIn (now (figures .exit)) (now (flags .exit)) (now (rounds .exit)) (now (course .exit)) (now (ran .exit)))
-        × (r .number ≡ 0 → HoldsLines (now (figures .exit)) (now (flags .exit)) (now (rounds .exit))) ⌝ }
+        (stepArrays (now (temps .entry)) (now (on .entry)) (now (figures .entry)) (now (flags .entry)) (now (rounds .entry))
+        (now (course .entry)) (now (ran .entry)))
+        r
+        (stepArrays (now (temps .exit)) (now (on .exit)) (now (figures .exit)) (now (flags .exit)) (now (rounds .exit))
+        (now (course .exit)) (now (ran .exit))) ⌝ }
 {
     let k = tank_refusals::refusals::lent_refusal(
         q,

@@ -1,13 +1,13 @@
 // Heaters, set points and a report's lines in plain arrays: a step lends these to its parts, where structs would be copied.
 ghost use mathlib.Core.Path.{_≡_};
 ghost use Prim.Native.Nat.{_<_};
-ghost use lib.ListN.{getD, length};
+ghost use lib.ListN.{getD};
 ghost use Rattle.working_order.specs.Order.{maxHeaters};
 ghost use Rattle.tank_model.specs.Fixed.{noHeater};
 ghost use Rattle.tank_model.specs.Checks.{noSetting};
 ghost use Rattle.tank_arrays.specs.Arrays.{fittedIn, heatersOf, thermostatsOf, pointsIn, settingsIn, presentOf, setPointsOf};
 ghost use Rattle.tank_arrays.specs.Arrays.{lineIn, linesIn, HoldsLines};
-ghost use Rattle.tank_arrays.specs.Contracts.{LineWritten};
+ghost use Rattle.tank_arrays.specs.Contracts.{LineWritten, LaidOut};
 use set_points::SetPoints;
 use tank_model::Heater;
 use tank_model::HeaterLine;
@@ -83,7 +83,7 @@ pub fn write_line(
 // ---- between structs and arrays
 
 pub fn heaters_of(fitted: [Heater; MAX_HEATERS]) -> [f64; THREE_EACH]
-    ensures { λ r. ⌜ (r ≡ heatersOf fitted) × (length fitted ≡ maxHeaters) ⌝ }
+    ensures { λ r. ⌜ LaidOut _ _ fitted (heatersOf fitted) r ⌝ }
 {
     let a = fitted[0];
     let b = fitted[1];
@@ -146,7 +146,7 @@ pub fn thermostats_of(fitted: [Heater; MAX_HEATERS]) -> [bool; MAX_HEATERS]
 
 // Whether the set points are present: the lower ones first, then the upper ones.
 pub fn present_of(settings: [Setting; MAX_HEATERS]) -> [bool; TWO_EACH]
-    ensures { λ r. ⌜ (r ≡ presentOf settings) × (length settings ≡ maxHeaters) ⌝ }
+    ensures { λ r. ⌜ LaidOut _ _ settings (presentOf settings) r ⌝ }
 {
     let mut present = [false; TWO_EACH];
     let mut h = 0;

@@ -46,10 +46,10 @@ returns c =
     let p = c .before .before .before .before .before .before .before .before .before .before .before .before .before .before .before .before .before .pre in
     let a = c .before .before .before .before .before .before .before .before .before .before .before .before .before .before .before .before .before .args in
     let h = p .1 .below (l .k) (c .before .before .before .before .before .before .before .before .before .before .before .before .before .before .loop-test .taken) in
-    let w = rw (c .before .before .before .before .before .before .before .before .before .before .before .before .heater-at .ensures, c .before .before .before .before .before .before .before .before .before .before .before .points-at .ensures) at (c .before .before .heat-turn .ensures .0) in
+    let w = rw (c .before .before .before .before .before .before .before .before .before .before .before .before .heater-at .ensures, c .before .before .before .before .before .before .before .before .before .before .before .points-at .ensures) at (c .before .before .heat-turn .ensures .works) in
     let e = ap (λ (z : TurnsAnswer). heatingIn (a .temps .now) (a .charged .now) (a .on .now) z (a .figures .now) (a .flags .now) (a .rounds .now)) (c .before .before .before .before .before .before .before .before .before .before .before .before .before .before .before .before .no-turns .ensures) in
     let k = ap (λ (m : ℕ). m + 1) (l .inv .2) in
-    (start-with _ _ _ _ _ _ _ _ _ e ∙ rw (c .before .before .heat-turn .ensures .1, k) (loop-off _ _ _ _ _ (a .order .now) (l .k) _ _ _ (l .inv .3) _ _ _ (c .before .before .before .before .before .before .before .before .before .before .before .before .before .before .loop-test .taken) (omega (arith, p .0 .few-heaters, p .1 .places)) h w (c .if1 .taken)), c .before .before .heat-turn .ensures .2)
+    record { works = start-with _ _ _ _ _ _ _ _ _ e ∙ rw (c .before .before .heat-turn .ensures .counts, k) (loop-off _ _ _ _ _ (a .order .now) (l .k) _ _ _ (l .inv .3) _ _ _ (c .before .before .before .before .before .before .before .before .before .before .before .before .before .before .loop-test .taken) (omega (arith, p .0 .few-heaters, p .1 .places)) h w (c .if1 .taken)); holds = c .before .before .heat-turn .ensures .holds }
 
 add-k : tie.Need-add-k Inv-loop μ-loop
 add-k c = let p = c .before .before .before .before .before .before .before .before .before .before .before .before .before .before .before .before .before .pre .0 .few-heaters in search needs
@@ -60,15 +60,15 @@ loop-again c =
     let p = c .before .before .before .before .before .before .before .before .before .before .before .before .before .before .before .before .before .pre in
     let a = c .before .before .before .before .before .before .before .before .before .before .before .before .before .before .before .before .before .args in
     let h = p .1 .below (l .k) (c .before .before .before .before .before .before .before .before .before .before .before .before .before .before .loop-test .taken) in
-    let w = rw (c .before .before .before .before .before .before .before .before .before .before .before .before .heater-at .ensures, c .before .before .before .before .before .before .before .before .before .before .before .points-at .ensures) at (c .before .before .heat-turn .ensures .0) in
-    (omega (arith, c .before .before .before .before .before .before .before .before .before .before .before .before .before .before .loop-test .taken), c .if1 .left, c .before .before .heat-turn .ensures .1 ∙ ap (λ (m : ℕ). m + 1) (l .inv .2), loop-on _ _ _ _ _ (a .order .now) (l .k) _ _ _ (l .inv .3) _ _ _ (c .before .before .before .before .before .before .before .before .before .before .before .before .before .before .loop-test .taken) (omega (arith, p .0 .few-heaters, p .1 .places)) h w (c .if1 .left), c .before .before .heat-turn .ensures .2)
+    let w = rw (c .before .before .before .before .before .before .before .before .before .before .before .before .heater-at .ensures, c .before .before .before .before .before .before .before .before .before .before .before .points-at .ensures) at (c .before .before .heat-turn .ensures .works) in
+    (omega (arith, c .before .before .before .before .before .before .before .before .before .before .before .before .before .before .loop-test .taken), c .if1 .left, c .before .before .heat-turn .ensures .counts ∙ ap (λ (m : ℕ). m + 1) (l .inv .2), loop-on _ _ _ _ _ (a .order .now) (l .k) _ _ _ (l .inv .3) _ _ _ (c .before .before .before .before .before .before .before .before .before .before .before .before .before .before .loop-test .taken) (omega (arith, p .0 .few-heaters, p .1 .places)) h w (c .if1 .left), c .before .before .heat-turn .ensures .holds)
 
 returns-2 : tie.Need-returns-2 Inv-loop μ-loop
 returns-2 c =
     let l = c .before .loop in
     let a = c .before .before .before .args in
     let e = ap (λ (z : TurnsAnswer). heatingIn (a .temps .now) (a .charged .now) (a .on .now) z (a .figures .now) (a .flags .now) (a .rounds .now)) (c .before .before .no-turns .ensures) in
-    (start-with _ _ _ _ _ _ _ _ _ e ∙ rw (l .inv .1, l .inv .2) (loop-done _ _ _ _ _ (a .order .now) (l .k) (heatingIn (l .temps) (l .charged) (l .on) (l .s) (l .figures) (l .flags) (l .rounds)) _ _ (l .inv .3) (c .loop-test .left)), l .inv .4)
+    record { works = start-with _ _ _ _ _ _ _ _ _ e ∙ rw (l .inv .1, l .inv .2) (loop-done _ _ _ _ _ (a .order .now) (l .k) (heatingIn (l .temps) (l .charged) (l .on) (l .s) (l .figures) (l .flags) (l .rounds)) _ _ (l .inv .3) (c .loop-test .left)); holds = l .inv .4 }
 
 pub heat-in-order-spec : {M : Type 1} → statement M
 heat-in-order-spec =

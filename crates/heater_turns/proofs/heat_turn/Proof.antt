@@ -36,7 +36,7 @@ write-line-requires c κs = (search needs, search needs)
 returns : tie.Need-returns
 returns c =
     let w = rw (c .before .before .before .before .before .before .before .before .before .before .before .before .before .immersion-of .ensures) at (c .before .before .before .before .before .before .before .before .turn .ensures) in
-    (record { number-is = ap (λ (z : TurnAnswer). z .number) (w .answers); leaves = rw (c .before .before .before .write-line .ensures .0, w .answers, w .leaves, w .charges); notes = rw (c .before .before .before .write-line .ensures .0, w .answers, w .leaves, c .before .before .before .before .before .before .before .before .before .before .before .before .before .immersion-of .ensures) }, refl, c .before .before .before .write-line .ensures .1)
+    record { works = record { number-is = ap (λ (z : TurnAnswer). z .number) (w .answers); leaves = rw (c .before .before .before .write-line .ensures .writes, w .answers, w .leaves, w .charges); notes = rw (c .before .before .before .write-line .ensures .writes, w .answers, w .leaves, c .before .before .before .before .before .before .before .before .before .before .before .before .before .immersion-of .ensures) }; counts = refl; holds = c .before .before .before .write-line .ensures .holds }
 
 pub heat-turn-spec : {M : Type 1} → statement M
 heat-turn-spec =

@@ -19,7 +19,7 @@ returns c =
     let fitted = fittedIn (a .heaters .now) (a .thermostats .now) in
     let p = c .before .before .before .before .before .before .before .before .before .before .before .pre .0 .few-heaters in
     let order = same-order (a .c) (a .vol .now) (a .n) (a .heaters .now) (a .thermostats .now) ∙ order-lent (a .c) (a .n) (omega arith) (a .heaters .now) (a .thermostats .now) ∙ sym (first-entries _ _ _ (c .before .before .before .before .before .before .before .before .before .before .working-order .ensures)) in
-    (in-order (a .c) (a .vol .now) (a .n) fitted (pointsIn (settingsIn (a .present .now) (a .points .now))) _ _ _ _ _ order (c .heat-in-order .ensures .0), c .heat-in-order .ensures .1)
+    record { works = in-order (a .c) (a .vol .now) (a .n) fitted (pointsIn (settingsIn (a .present .now) (a .points .now))) _ _ _ _ _ order (c .heat-in-order .ensures .works); holds = c .heat-in-order .ensures .holds }
 
 pub heat-turns-spec : {M : Type 1} → statement M
 heat-turns-spec =

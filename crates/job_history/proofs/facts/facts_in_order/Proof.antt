@@ -48,7 +48,7 @@ returns c =
     let l = c .before .loop in
     let p = c .before .before .before .pre in
     let e = all-many (a .settings) (a .figures .now) (a .flags .now) (a .rounds .now) (a .course .now) (a .ran .now) (a .count) (a .order .now) (omega (arith, p .0, p .1)) in
-    (whole _ (a .count) (l .r) (l .k) (omega (arith, l .inv .0, c .loop-test .left)) e (l .inv .1) (l .inv .2), omega (arith, l .inv .0, l .inv .1, c .loop-test .left))
+    record { tells = whole _ (a .count) (l .r) (l .k) (omega (arith, l .inv .0, c .loop-test .left)) e (l .inv .1) (l .inv .2); few = omega (arith, l .inv .0, l .inv .1, p .0) }
 
 pub facts-in-order-spec : {M : Type 1} → statement M
 facts-in-order-spec =

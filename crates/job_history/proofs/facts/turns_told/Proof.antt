@@ -14,7 +14,7 @@ returns : tie.Need-returns
 unfolding stepTurns
 returns c =
     let none = none-told _ (sym (c .before .before .pre .many) ∙ c .before .if1 .taken) in
-    (c .no-turns .ensures ∙ ap turnsOf (sym none), rw (c .no-turns .ensures) (omega arith))
+    record { tells = c .no-turns .ensures ∙ ap turnsOf (sym none); few = rw (c .no-turns .ensures) (omega arith) }
 
 working-order-requires : tie.Need-working-order-requires
 working-order-requires c κs = few-heaters (c .before .before .before .before .args .t) (c .before .before .before .before .args .a) _ _ (c .before .before .before .before .pre) (c .before .before .before .if1 .left)
@@ -31,9 +31,9 @@ returns-2 c =
     let few = few-heaters t (c .before .before .before .before .before .before .before .before .args .a) _ _ (c .before .before .before .before .before .before .before .before .pre) (c .before .before .before .before .before .before .before .if1 .left) in
     let more = no-more t (c .before .before .before .before .before .before .before .before .args .a) _ _ (c .before .before .before .before .before .before .before .before .pre) in
     let laid = c .before .before .before .before .before .heaters-of .ensures in
-    let order = first-entries _ _ _ (c .before .before .before .working-order .ensures) ∙ sym (order-of (fixedIn t .cylinder) (t .heaters) few (t .fitted) _ (laid .0) (laid .1)) in
+    let order = first-entries _ _ _ (c .before .before .before .working-order .ensures) ∙ sym (order-of (fixedIn t .cylinder) (t .heaters) few (t .fitted) _ (laid .is) (laid .many)) in
     let all = c .facts-in-order .ensures in
-    (all .0 ∙ ap turnsOf (step-told t (c .before .before .before .before .before .before .before .before .args .a) _ _ (c .before .before .before .before .before .before .before .before .pre) (c .before .before .before .before .before .before .before .if1 .left) _ order), rw (all .1) (omega arith))
+    record { tells = all .tells ∙ ap turnsOf (step-told t (c .before .before .before .before .before .before .before .before .args .a) _ _ (c .before .before .before .before .before .before .before .before .pre) (c .before .before .before .before .before .before .before .if1 .left) _ order); few = all .few }
 
 pub turns-told-spec : {M : Type 1} → statement M
 turns-told-spec =

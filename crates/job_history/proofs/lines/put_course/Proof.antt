@@ -8,7 +8,7 @@ use Rattle.job_history.proofs.lines.put_course.Tie as tie
 
 returns : tie.Need-returns
 unfolding courseText
-returns c = ((put-then (put-then (put-then (put-then (c .before .before .before .before .before .before .before .before .before .before .before .before .before .before .before .before .before .before .put-byte .ensures .0) (c .before .before .before .before .before .before .before .before .before .before .before .before .before .before .put-number .ensures .0)) (c .before .before .before .before .before .before .before .before .before .before .put-double .ensures .0)) (c .before .before .before .before .before .before .put-double2 .ensures .0)) (c .before .before .put-points .ensures .0)), omega arith)
+returns c = record { puts = (put-then (put-then (put-then (put-then (c .before .before .before .before .before .before .before .before .before .before .before .before .before .before .before .before .before .before .put-byte .ensures .puts) (c .before .before .before .before .before .before .before .before .before .before .before .before .before .before .put-number .ensures .puts)) (c .before .before .before .before .before .before .before .before .before .before .put-double .ensures .puts)) (c .before .before .before .before .before .before .put-double2 .ensures .puts)) (c .before .before .put-points .ensures .puts)); within = omega arith }
 
 pub put-course-spec : {M : Type 1} → statement M
 put-course-spec =

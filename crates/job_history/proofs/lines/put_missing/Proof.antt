@@ -6,7 +6,7 @@ use Rattle.job_history.proofs.lines.put_missing.Statement.{statement}
 use Rattle.job_history.proofs.lines.put_missing.Tie as tie
 
 returns : tie.Need-returns
-returns c = (put-then (c .before .before .before .before .before .before .put-byte .ensures .0) (c .before .before .put-byte2 .ensures .0), omega arith)
+returns c = record { puts = put-then (c .before .before .before .before .before .before .put-byte .ensures .puts) (c .before .before .put-byte2 .ensures .puts); within = omega arith }
 
 pub put-missing-spec : {M : Type 1} → statement M
 put-missing-spec = tie.close (tie.spec (λ c κs. search needs) (λ c κs. search needs) (λ c. search needs) returns)

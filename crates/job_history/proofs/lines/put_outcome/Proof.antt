@@ -8,7 +8,7 @@ use Rattle.job_history.proofs.lines.put_outcome.Tie as tie
 
 returns : tie.Need-returns
 unfolding outcomeText
-returns c = (rw (← c .before .before .before .before .before .before .before .before .before .before .before .before .before .before .before .before .before .before .before .before .flag-number .ensures, ← c .before .before .before .before .before .before .before .before .before .before .before .before .before .before .before .flag-number2 .ensures) (put-then (put-then (put-then (put-then (c .before .before .before .before .before .before .before .before .before .before .before .before .before .before .before .before .before .before .before .put-number .ensures .0) (c .before .before .before .before .before .before .before .before .before .before .before .before .before .before .put-number2 .ensures .0)) (c .before .before .before .before .before .before .before .before .before .before .put-double .ensures .0)) (c .before .before .before .before .before .before .put-number3 .ensures .0)) (c .before .before .put-byte .ensures .0)), omega arith)
+returns c = record { puts = rw (← c .before .before .before .before .before .before .before .before .before .before .before .before .before .before .before .before .before .before .before .before .flag-number .ensures, ← c .before .before .before .before .before .before .before .before .before .before .before .before .before .before .before .flag-number2 .ensures) (put-then (put-then (put-then (put-then (c .before .before .before .before .before .before .before .before .before .before .before .before .before .before .before .before .before .before .before .put-number .ensures .puts) (c .before .before .before .before .before .before .before .before .before .before .before .before .before .before .put-number2 .ensures .puts)) (c .before .before .before .before .before .before .before .before .before .before .put-double .ensures .puts)) (c .before .before .before .before .before .before .put-number3 .ensures .puts)) (c .before .before .put-byte .ensures .puts)); within = omega arith }
 
 pub put-outcome-spec : {M : Type 1} → statement M
 put-outcome-spec =

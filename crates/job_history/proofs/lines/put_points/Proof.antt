@@ -8,19 +8,19 @@ use Rattle.job_history.proofs.lines.put_points.Tie as tie
 
 returns : tie.Need-returns
 unfolding pointsText
-returns c = (rw (c .before .before .before .before .before .before .before .before .enum-told .given .1) (put-then (c .before .before .before .before .before .before .put-missing .ensures .0) (c .before .before .put-missing2 .ensures .0)), omega arith)
+returns c = record { puts = rw (c .before .before .before .before .before .before .before .before .enum-told .given .1) (put-then (c .before .before .before .before .before .before .put-missing .ensures .puts) (c .before .before .put-missing2 .ensures .puts)); within = omega arith }
 
 returns-2 : tie.Need-returns-2
 unfolding pointsText
-returns-2 c = (rw (c .before .before .before .before .before .before .before .before .before .p .given .1) (put-then (c .before .before .before .before .before .before .put-double .ensures .0) (c .before .before .put-missing3 .ensures .0)), omega arith)
+returns-2 c = record { puts = rw (c .before .before .before .before .before .before .before .before .before .p .given .1) (put-then (c .before .before .before .before .before .before .put-double .ensures .puts) (c .before .before .put-missing3 .ensures .puts)); within = omega arith }
 
 returns-3 : tie.Need-returns-3
 unfolding pointsText
-returns-3 c = (rw (c .before .before .before .before .before .before .before .before .before .p2 .given .1) (put-then (c .before .before .before .before .before .before .put-missing4 .ensures .0) (c .before .before .put-double2 .ensures .0)), omega arith)
+returns-3 c = record { puts = rw (c .before .before .before .before .before .before .before .before .before .p2 .given .1) (put-then (c .before .before .before .before .before .before .put-missing4 .ensures .puts) (c .before .before .put-double2 .ensures .puts)); within = omega arith }
 
 returns-4 : tie.Need-returns-4
 unfolding pointsText
-returns-4 c = (rw (c .before .before .before .before .before .before .before .before .before .p3 .given .1) (put-then (c .before .before .before .before .before .before .put-double3 .ensures .0) (c .before .before .put-double4 .ensures .0)), omega arith)
+returns-4 c = record { puts = rw (c .before .before .before .before .before .before .before .before .before .p3 .given .1) (put-then (c .before .before .before .before .before .before .put-double3 .ensures .puts) (c .before .before .put-double4 .ensures .puts)); within = omega arith }
 
 pub put-points-spec : {M : Type 1} → statement M
 put-points-spec =

@@ -8,7 +8,7 @@ use Rattle.job_history.proofs.lines.put_turn_line.Tie as tie
 
 returns : tie.Need-returns
 unfolding turnLine
-returns c = ((put-then (c .before .before .before .before .before .before .put-course .ensures .0) (c .before .before .put-outcome .ensures .0)), omega arith)
+returns c = record { puts = (put-then (c .before .before .before .before .before .before .put-course .ensures .puts) (c .before .before .put-outcome .ensures .puts)); within = omega arith }
 
 pub put-turn-line-spec : {M : Type 1} → statement M
 put-turn-line-spec =

@@ -23,7 +23,7 @@ loop-holds c = (omega arith, omega arith, put-nothing _ _)
 loop-again : tie.Need-loop-again Inv-loop μ-loop
 loop-again c =
     let at = c .before .before .before .before .before .before .loop in
-    (omega arith, omega arith, rw (joined-more (lineAt (c .before .before .before .before .before .before .before .before .args .t4)) (at .k)) (put-then (at .inv .2) (c .before .before .put-turn-line .ensures .0)))
+    (omega arith, omega arith, rw (joined-more (lineAt (c .before .before .before .before .before .before .before .before .args .t4)) (at .k)) (put-then (at .inv .2) (c .before .before .put-turn-line .ensures .puts)))
 
 same-length : tie.Need-same-length Inv-loop μ-loop
 same-length c = put-length (c .before .loop .inv .2)
@@ -33,7 +33,7 @@ unfolding turnLines
 returns c =
     let at = c .before .loop in
     let e : at .k ≡ c .before .before .before .args .count = omega arith in
-    (rw e at (at .inv .2), omega arith)
+    record { puts = rw e at (at .inv .2); within = omega arith }
 
 pub put-turn-lines-spec : {M : Type 1} → statement M
 put-turn-lines-spec =

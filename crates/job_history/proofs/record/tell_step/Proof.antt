@@ -12,7 +12,7 @@ returns : tie.Need-returns
 unfolding stepHistory historyStep
 returns c =
     let lines = c .before .before .before .before .before .history-lines .ensures in
-    rw (← c .before .before .before .before .before .before .before .before .before .told-step .ensures .0, ← c .before .before .before .before .before .before .before .before .before .told-step .ensures .1) (record { goes = refl; counts = lines .0; prints = lines .1; short = lines .2 })
+    rw (← c .before .before .before .before .before .before .before .before .before .told-step .ensures .steps, ← c .before .before .before .before .before .before .before .before .before .told-step .ensures .turns .tells) (record { goes = refl; counts = lines .ends; prints = lines .stands; short = lines .short })
 
 pub tell-step-spec : {M : Type 1} → statement M
 tell-step-spec =

@@ -8,7 +8,7 @@ use Rattle.job_lines.proofs.lines.put_head.Tie as tie
 
 returns : tie.Need-returns
 unfolding headText
-returns c = (put-then (put-then (c .before .before .before .before .before .before .before .before .before .before .put-byte .ensures .0) (c .before .before .before .before .before .before .put-number .ensures .0)) (c .before .before .put-number2 .ensures .0), omega arith)
+returns c = record { puts = put-then (put-then (c .before .before .before .before .before .before .before .before .before .before .put-byte .ensures .puts) (c .before .before .before .before .before .before .put-number .ensures .puts)) (c .before .before .put-number2 .ensures .puts); within = omega arith }
 
 pub put-head-spec : {M : Type 1} → statement M
 put-head-spec =

@@ -8,7 +8,7 @@ use Rattle.job_lines.proofs.lines.put_heater_line.Tie as tie
 
 returns : tie.Need-returns
 unfolding heaterLine
-returns c = (rw (← c .before .before .before .before .before .before .before .before .before .before .before .before .before .before .before .before .before .before .before .before .before .before .before .flag-number .ensures) (put-then (put-then (put-then (put-then (put-then (put-then (c .before .before .before .before .before .before .before .before .before .before .before .before .before .before .before .before .before .before .before .before .before .before .before .before .before .before .before .put-byte .ensures .0) (c .before .before .before .before .before .before .before .before .before .before .before .before .before .before .before .before .before .before .before .before .before .before .put-number .ensures .0)) (c .before .before .before .before .before .before .before .before .before .before .before .before .before .before .before .before .before .before .put-double .ensures .0)) (c .before .before .before .before .before .before .before .before .before .before .before .before .before .before .put-double2 .ensures .0)) (c .before .before .before .before .before .before .before .before .before .before .put-double3 .ensures .0)) (c .before .before .before .before .before .before .put-number2 .ensures .0)) (c .before .before .put-byte2 .ensures .0)), omega arith)
+returns c = record { puts = rw (← c .before .before .before .before .before .before .before .before .before .before .before .before .before .before .before .before .before .before .before .before .before .before .before .flag-number .ensures) (put-then (put-then (put-then (put-then (put-then (put-then (c .before .before .before .before .before .before .before .before .before .before .before .before .before .before .before .before .before .before .before .before .before .before .before .before .before .before .before .put-byte .ensures .puts) (c .before .before .before .before .before .before .before .before .before .before .before .before .before .before .before .before .before .before .before .before .before .before .put-number .ensures .puts)) (c .before .before .before .before .before .before .before .before .before .before .before .before .before .before .before .before .before .before .put-double .ensures .puts)) (c .before .before .before .before .before .before .before .before .before .before .before .before .before .before .put-double2 .ensures .puts)) (c .before .before .before .before .before .before .before .before .before .before .put-double3 .ensures .puts)) (c .before .before .before .before .before .before .put-number2 .ensures .puts)) (c .before .before .put-byte2 .ensures .puts)); within = omega arith }
 
 pub put-heater-line-spec : {M : Type 1} → statement M
 put-heater-line-spec =

@@ -28,7 +28,7 @@ array-copy-out-line c = omega (arith, c .before .before .before .pre .2 (c .befo
 loop-again : tie.Need-loop-again Inv-loop μ-loop
 loop-again c =
     let at = c .before .before .before .before .before .before .loop in
-    (omega arith, omega arith, rw (joined-more (orderedLine (c .before .before .before .before .before .before .before .before .args .t4) (c .before .before .before .before .before .before .before .before .args .t5)) (at .k)) (put-then (at .inv .2) (c .before .before .put-heater-line .ensures .0)))
+    (omega arith, omega arith, rw (joined-more (orderedLine (c .before .before .before .before .before .before .before .before .args .t4) (c .before .before .before .before .before .before .before .before .args .t5)) (at .k)) (put-then (at .inv .2) (c .before .before .put-heater-line .ensures .puts)))
 
 same-length : tie.Need-same-length Inv-loop μ-loop
 same-length c = put-length (c .before .loop .inv .2)
@@ -38,7 +38,7 @@ unfolding heaterLines
 returns c =
     let at = c .before .loop in
     let e : at .k ≡ c .before .before .before .args .n = omega arith in
-    (rw e at (at .inv .2), omega arith)
+    record { puts = rw e at (at .inv .2); within = omega arith }
 
 pub put-heater-lines-spec : {M : Type 1} → statement M
 put-heater-lines-spec =

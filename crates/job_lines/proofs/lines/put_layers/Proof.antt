@@ -22,7 +22,7 @@ loop-holds c = (omega arith, omega arith, put-nothing _ _)
 loop-again : tie.Need-loop-again Inv-loop μ-loop
 loop-again c =
     let at = c .before .before .before .before .before .before .loop in
-    (omega arith, omega arith, rw (joined-more (layerText (c .before .before .before .before .before .before .before .before .args .temps .now)) (at .k)) (put-then (at .inv .2) (c .before .before .put-double .ensures .0)))
+    (omega arith, omega arith, rw (joined-more (layerText (c .before .before .before .before .before .before .before .before .args .temps .now)) (at .k)) (put-then (at .inv .2) (c .before .before .put-double .ensures .puts)))
 
 same-length : tie.Need-same-length Inv-loop μ-loop
 same-length c = put-length (c .before .loop .inv .2)
@@ -32,7 +32,7 @@ unfolding layersText
 returns c =
     let at = c .before .loop in
     let e : at .k ≡ c .before .before .before .args .n = omega arith in
-    (rw e at (at .inv .2), omega arith)
+    record { puts = rw e at (at .inv .2); within = omega arith }
 
 pub put-layers-spec : {M : Type 1} → statement M
 put-layers-spec =

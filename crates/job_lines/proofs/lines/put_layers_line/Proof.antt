@@ -8,7 +8,7 @@ use Rattle.job_lines.proofs.lines.put_layers_line.Tie as tie
 
 returns : tie.Need-returns
 unfolding layersLine
-returns c = (put-then (put-then (c .before .before .before .before .before .before .before .before .before .before .put-byte .ensures .0) (c .before .before .before .before .before .before .put-layers .ensures .0)) (c .before .before .put-byte2 .ensures .0), omega arith)
+returns c = record { puts = put-then (put-then (c .before .before .before .before .before .before .before .before .before .before .put-byte .ensures .puts) (c .before .before .before .before .before .before .put-layers .ensures .puts)) (c .before .before .put-byte2 .ensures .puts); within = omega arith }
 
 pub put-layers-line-spec : {M : Type 1} → statement M
 put-layers-line-spec =

@@ -8,7 +8,7 @@ use Rattle.job_lines.proofs.lines.put_totals.Tie as tie
 
 returns : tie.Need-returns
 unfolding totalsText
-returns c = (put-then (put-then (put-then (put-then (c .before .before .before .before .before .before .before .before .before .before .before .before .before .before .before .before .before .before .put-double .ensures .0) (c .before .before .before .before .before .before .before .before .before .before .before .before .before .before .put-double2 .ensures .0)) (c .before .before .before .before .before .before .before .before .before .before .put-double3 .ensures .0)) (c .before .before .before .before .before .before .put-double4 .ensures .0)) (c .before .before .put-byte .ensures .0), omega arith)
+returns c = record { puts = put-then (put-then (put-then (put-then (c .before .before .before .before .before .before .before .before .before .before .before .before .before .before .before .before .before .before .put-double .ensures .puts) (c .before .before .before .before .before .before .before .before .before .before .before .before .before .before .put-double2 .ensures .puts)) (c .before .before .before .before .before .before .before .before .before .before .put-double3 .ensures .puts)) (c .before .before .before .before .before .before .put-double4 .ensures .puts)) (c .before .before .put-byte .ensures .puts); within = omega arith }
 
 pub put-totals-spec : {M : Type 1} → statement M
 put-totals-spec =

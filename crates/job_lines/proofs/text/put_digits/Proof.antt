@@ -42,7 +42,7 @@ unfolding digits
 returns c =
     let at = c .before .loop in
     let e : at .i ≡ 0 = omega arith in
-    (record { stands = rw e at (at .inv .2); ends = rw digits-length }, omega arith)
+    record { puts = record { stands = rw e at (at .inv .2); ends = rw digits-length }; within = omega arith }
 
 pub put-digits-spec : {M : Type 1} → statement M
 put-digits-spec =

@@ -8,7 +8,7 @@ use Rattle.job_lines.proofs.text.put_double.Tie as tie
 
 returns : tie.Need-returns
 unfolding hexadecimal
-returns c = (rw (← c .before .before .before .before .bits-of .ensures) (put-then (c .before .before .before .before .before .before .before .put-byte .ensures .0) (c .before .before .put-digits .ensures .0)), omega arith)
+returns c = record { puts = rw (← c .before .before .before .before .bits-of .ensures) (put-then (c .before .before .before .before .before .before .before .put-byte .ensures .puts) (c .before .before .put-digits .ensures .puts)); within = omega arith }
 
 pub put-double-spec : {M : Type 1} → statement M
 put-double-spec =

@@ -23,7 +23,7 @@ unfolding widthFrom
 returns c =
     let at = c .before .before .loop in
     let e : 20 - at .k ≡ suc (20 - (at .k + 1)) = omega arith in
-    (rw (e, eq-eqb _ _ (c .if1 .taken)) at (at .inv .1), omega arith)
+    record { is = rw (e, eq-eqb _ _ (c .if1 .taken)) at (at .inv .1); few = omega arith }
 
 loop-again : tie.Need-loop-again Inv-loop μ-loop
 unfolding widthFrom
@@ -37,7 +37,7 @@ unfolding widthFrom
 returns-2 c =
     let at = c .before .loop in
     let e : 20 - at .k ≡ 0 = omega arith in
-    (rw e at (at .inv .1), omega arith)
+    record { is = rw e at (at .inv .1); few = omega arith }
 
 pub width-spec : {M : Type 1} → statement M
 width-spec =

@@ -7,7 +7,7 @@ use Rattle.job_run.proofs.record.run_step.Tie as tie
 
 returns : tie.Need-returns
 unfolding stepRun
-returns c = rw (← c .before .before .before .before .before .before .before .demand-hot-water .ensures) (record { goes = refl; counts = c .before .before .before .before .before .step-lines .ensures .0; prints = c .before .before .before .before .before .step-lines .ensures .1; short = c .before .before .before .before .before .step-lines .ensures .2 })
+returns c = rw (← c .before .before .before .before .before .before .before .demand-hot-water .ensures) (record { goes = refl; counts = c .before .before .before .before .before .step-lines .ensures .ends; prints = c .before .before .before .before .before .step-lines .ensures .stands; short = c .before .before .before .before .before .step-lines .ensures .short })
 
 pub run-step-spec : {M : Type 1} → statement M
 run-step-spec =

@@ -86,7 +86,10 @@ returns-2 c =
     record {
       records = at .inv .records;
       goes = at .inv .goes;
-      whole = λ e. (at .inv .counts, ap (goesOn (linesOf (a .history) (a .bytes .now)) (isReady (a .bytes .now) (a .last))) (at .inv .goes) ∙ off);
+      whole = λ e. record {
+        takes = at .inv .counts;
+        stops = ap (goesOn (linesOf (a .history) (a .bytes .now)) (isReady (a .bytes .now) (a .last))) (at .inv .goes) ∙ off;
+      };
       cut = λ e. absurd (true≢false (sym e));
     }
 

@@ -21,8 +21,8 @@ returns c =
     let t = tankIn (i .counts .now) (i .numbers .now) (i .temps .now) (i .heaters .now) (i .thermostats .now) (i .flags .now) in
     let r = reportIn (i .totals .now) (i .figures .now) (i .line-flags .now) (i .rounds .now) in
     let a = stepIn (i .feed) (i .asked .now) (i .volumes .now) (i .present .now) (i .points .now) in
-    let worked = rw (c .before .before .before .before .before .before .before .before .before .before .before .before .before .before .before .before .before .before .before .before .before .flags-in .ensures, c .before .before .before .before .before .before .before .before .before .before .before .before .before .before .before .before .before .before .before .present-in .ensures, c .before .before .before .before .before .before .before .before .before .before .before .before .before .before .before .before .flags-in2 .ensures) at (w .ensures .0) in
-    refused-left (i .counts .now) (i .numbers .now) (i .temps .now) (i .heaters .now) (i .thermostats .now) (i .flags .now) (l .0) (l .1) (l .2) (i .totals .now) (i .figures .now) (i .line-flags .now) (i .rounds .now) (l .3) (l .4) (l .5) a _ (ap (λ (x : Stepped). x .number) (step-refuses t r a (w .result) _ _ _ _ worked (c .if1 .taken))) (c .if1 .taken)
+    let worked = rw (c .before .before .before .before .before .before .before .before .before .before .before .before .before .before .before .before .before .before .before .before .before .flags-in .ensures, c .before .before .before .before .before .before .before .before .before .before .before .before .before .before .before .before .before .before .before .present-in .ensures, c .before .before .before .before .before .before .before .before .before .before .before .before .before .before .before .before .flags-in2 .ensures) at (w .ensures .works) in
+    refused-left (i .counts .now) (i .numbers .now) (i .temps .now) (i .heaters .now) (i .thermostats .now) (i .flags .now) (l .counts-long) (l .numbers-long) (l .heaters-long) (i .totals .now) (i .figures .now) (i .line-flags .now) (i .rounds .now) (l .totals-long) (l .figures-long) (l .rounds-long) a _ (ap (λ (x : Stepped). x .number) (step-refuses t r a (w .result) _ _ _ _ worked (c .if1 .taken))) (c .if1 .taken)
 
 returns-2 : tie.Need-returns-2
 returns-2 c =
@@ -32,9 +32,9 @@ returns-2 c =
     let t = tankIn (i .counts .now) (i .numbers .now) (i .temps .now) (i .heaters .now) (i .thermostats .now) (i .flags .now) in
     let r = reportIn (i .totals .now) (i .figures .now) (i .line-flags .now) (i .rounds .now) in
     let a = stepIn (i .feed) (i .asked .now) (i .volumes .now) (i .present .now) (i .points .now) in
-    let worked = rw (c .before .before .before .before .before .before .before .before .before .before .before .before .before .before .before .before .before .before .before .before .before .before .before .before .flags-in .ensures, c .before .before .before .before .before .before .before .before .before .before .before .before .before .before .before .before .before .before .before .before .before .before .present-in .ensures, c .before .before .before .before .before .before .before .before .before .before .before .before .before .before .before .before .before .before .before .flags-in2 .ensures) at (w .ensures .0) in
+    let worked = rw (c .before .before .before .before .before .before .before .before .before .before .before .before .before .before .before .before .before .before .before .before .before .before .before .before .flags-in .ensures, c .before .before .before .before .before .before .before .before .before .before .before .before .before .before .before .before .before .before .before .before .before .before .present-in .ensures, c .before .before .before .before .before .before .before .before .before .before .before .before .before .before .before .before .before .before .before .flags-in2 .ensures) at (w .ensures .works) in
     let z = c .before .before .before .if1 .left in
-    worked-left (i .counts .now) (i .numbers .now) (i .temps .now) (i .heaters .now) (i .thermostats .now) (i .flags .now) (l .0) (l .1) (l .2) (i .totals .now) (i .figures .now) (i .line-flags .now) (i .rounds .now) (l .3) (l .4) (l .5) a (w .result) _ _ _ _ _ _ _ _ (step-accepts t r a (w .result) _ _ _ _ worked z) (c .before .totals-of .ensures) (w .ensures .1 z) (c .before .before .bytes-of .ensures) (c .bytes-of2 .ensures)
+    worked-left (i .counts .now) (i .numbers .now) (i .temps .now) (i .heaters .now) (i .thermostats .now) (i .flags .now) (l .counts-long) (l .numbers-long) (l .heaters-long) (i .totals .now) (i .figures .now) (i .line-flags .now) (i .rounds .now) (l .totals-long) (l .figures-long) (l .rounds-long) a (w .result) _ _ _ _ _ _ _ _ (step-accepts t r a (w .result) _ _ _ _ worked z) (c .before .totals-of .ensures) (w .ensures .holds z) (c .before .before .bytes-of .ensures) (c .bytes-of2 .ensures)
 
 pub huszmago-step-spec : {M : Type 1} → statement M
 huszmago-step-spec =

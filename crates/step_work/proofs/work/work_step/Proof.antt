@@ -18,7 +18,7 @@ returns c =
     let f = fixedFor (i .q) (i .heaters .now) (i .thermostats .now) in
     let st : State = record { temps = i .temps .now; flags = i .on .now } in
     let a = stepFor (i .q) (i .volumes .now) (i .present .now) (i .points .now) in
-    (refused-before f st a _ _ _ _ _ (c .refused .ensures .0) (c .before .if1 .taken) (c .refused .ensures .1) (step-refused f st a _ (c .before .before .lent-refusal .ensures (i .on .now)) (c .before .if1 .taken)), λ z. absurd (c .before .if1 .taken (sym (c .refused .ensures .0) ∙ z)))
+    record { works = refused-before f st a _ _ _ _ _ (c .refused .ensures .number-is) (c .before .if1 .taken) (c .refused .ensures .turns-are) (step-refused f st a _ (c .before .before .lent-refusal .ensures (i .on .now)) (c .before .if1 .taken)); holds = λ z. absurd (c .before .if1 .taken (sym (c .refused .ensures .number-is) ∙ z)) }
 
 layer-volumes-requires : tie.Need-layer-volumes-requires
 layer-volumes-requires c κs =
@@ -48,7 +48,7 @@ returns-2 c =
     let passed = sym (c .before .before .before .before .before .before .before .before .before .before .lent-refusal .ensures (i .on .now)) ∙ c .before .before .before .before .before .before .before .before .before .if1 .left in
     let d = c .before .before .before .draw-events .result in
     let drawn = rw (c .before .before .before .before .no-totals .ensures, c .before .before .before .before .before .before .before .layer-volumes .ensures) at (c .before .before .before .draw-events .ensures) in
-    (refused-before f st a _ _ _ _ _ (c .refused2 .ensures .0) (c .before .if2 .taken) (c .refused2 .ensures .1) (drawn-refused f st a passed _ d drawn (c .before .if2 .taken)), λ z. absurd (c .before .if2 .taken (sym (c .refused2 .ensures .0) ∙ z)))
+    record { works = refused-before f st a _ _ _ _ _ (c .refused2 .ensures .number-is) (c .before .if2 .taken) (c .refused2 .ensures .turns-are) (drawn-refused f st a passed _ d drawn (c .before .if2 .taken)); holds = λ z. absurd (c .before .if2 .taken (sym (c .refused2 .ensures .number-is) ∙ z)) }
 
 average-of-requires : tie.Need-average-of-requires
 average-of-requires c κs =
@@ -80,8 +80,8 @@ returns-3 c =
     let d = c .before .before .before .before .before .before .before .before .before .before .before .before .before .before .before .before .before .before .draw-events .result in
     let drawn = rw (c .before .before .before .before .before .before .before .before .before .before .before .before .before .before .before .before .before .before .before .no-totals .ensures, c .before .before .before .before .before .before .before .before .before .before .before .before .before .before .before .before .before .before .before .before .before .before .layer-volumes .ensures) at (c .before .before .before .before .before .before .before .before .before .before .before .before .before .before .before .before .before .before .draw-events .ensures) in
     let zeros = zeros-unheated _ (i .on .now) (i .figures .now) (i .flags .now) (i .rounds .now) (c .before .before .before .before .before .before .before .before .before .before .before .before .before .before .before .before .before .before .before .before .before .before .before .before .before .before .before .pre) in
-    let heated = start-with _ _ _ _ _ _ _ _ _ zeros ∙ (rw (c .before .before .before .before .before .before .before .before .before .before .before .before .before .before .before .before .before .before .before .before .before .before .layer-volumes .ensures) at (c .before .before .before .heat-turns .ensures .0)) in
-    (heated-refused f st a passed _ d drawn (c .before .before .before .before .before .before .before .before .before .before .before .before .before .before .before .before .if2 .left) _ (c .before .before .before .before .before .before .before .before .before .before .before .before .before .average-of .ensures) (c .before .before .before .heat-turns .result) _ _ _ heated _ _ _ (c .refused3 .ensures .1) (c .refused3 .ensures .0) (c .before .if3 .taken), λ z. absurd (c .before .if3 .taken (sym (c .refused3 .ensures .0) ∙ z)))
+    let heated = start-with _ _ _ _ _ _ _ _ _ zeros ∙ (rw (c .before .before .before .before .before .before .before .before .before .before .before .before .before .before .before .before .before .before .before .before .before .before .layer-volumes .ensures) at (c .before .before .before .heat-turns .ensures .works)) in
+    record { works = heated-refused f st a passed _ d drawn (c .before .before .before .before .before .before .before .before .before .before .before .before .before .before .before .before .if2 .left) _ (c .before .before .before .before .before .before .before .before .before .before .before .before .before .average-of .ensures) (c .before .before .before .heat-turns .result) _ _ _ heated _ _ _ (c .refused3 .ensures .turns-are) (c .refused3 .ensures .number-is) (c .before .if3 .taken); holds = λ z. absurd (c .before .if3 .taken (sym (c .refused3 .ensures .number-is) ∙ z)) }
 
 returns-4 : tie.Need-returns-4
 returns-4 c =
@@ -93,8 +93,8 @@ returns-4 c =
     let d = c .before .before .before .before .before .before .before .before .before .before .before .before .before .before .before .before .before .before .before .before .before .draw-events .result in
     let drawn = rw (c .before .before .before .before .before .before .before .before .before .before .before .before .before .before .before .before .before .before .before .before .before .before .no-totals .ensures, c .before .before .before .before .before .before .before .before .before .before .before .before .before .before .before .before .before .before .before .before .before .before .before .before .before .layer-volumes .ensures) at (c .before .before .before .before .before .before .before .before .before .before .before .before .before .before .before .before .before .before .before .before .before .draw-events .ensures) in
     let zeros = zeros-unheated _ (i .on .now) (i .figures .now) (i .flags .now) (i .rounds .now) (c .before .before .before .before .before .before .before .before .before .before .before .before .before .before .before .before .before .before .before .before .before .before .before .before .before .before .before .before .before .before .pre) in
-    let heated = start-with _ _ _ _ _ _ _ _ _ zeros ∙ (rw (c .before .before .before .before .before .before .before .before .before .before .before .before .before .before .before .before .before .before .before .before .before .before .before .before .before .layer-volumes .ensures) at (c .before .before .before .before .before .before .heat-turns .ensures .0)) in
-    (close-refused f st a passed _ d drawn (c .before .before .before .before .before .before .before .before .before .before .before .before .before .before .before .before .before .before .before .if2 .left) _ (c .before .before .before .before .before .before .before .before .before .before .before .before .before .before .before .before .average-of .ensures) (c .before .before .before .before .before .before .heat-turns .result) _ _ _ heated (c .before .before .before .before .if3 .left) _ _ _ (c .refused4 .ensures .1) (c .refused4 .ensures .0) (sym (c .before .before .are-both-finite .ensures) ∙ not-true _ (c .before .if4 .taken)), λ z. let e = sym (c .refused4 .ensures .0) ∙ z in absurd (omega arith))
+    let heated = start-with _ _ _ _ _ _ _ _ _ zeros ∙ (rw (c .before .before .before .before .before .before .before .before .before .before .before .before .before .before .before .before .before .before .before .before .before .before .before .before .before .layer-volumes .ensures) at (c .before .before .before .before .before .before .heat-turns .ensures .works)) in
+    record { works = close-refused f st a passed _ d drawn (c .before .before .before .before .before .before .before .before .before .before .before .before .before .before .before .before .before .before .before .if2 .left) _ (c .before .before .before .before .before .before .before .before .before .before .before .before .before .before .before .before .average-of .ensures) (c .before .before .before .before .before .before .heat-turns .result) _ _ _ heated (c .before .before .before .before .if3 .left) _ _ _ (c .refused4 .ensures .turns-are) (c .refused4 .ensures .number-is) (sym (c .before .before .are-both-finite .ensures) ∙ not-true _ (c .before .if4 .taken)); holds = λ z. let e = sym (c .refused4 .ensures .number-is) ∙ z in absurd (omega arith) }
 
 returns-5 : tie.Need-returns-5
 returns-5 c =
@@ -106,8 +106,8 @@ returns-5 c =
     let d = c .before .before .before .before .before .before .before .before .before .before .before .before .before .before .before .before .before .before .before .before .draw-events .result in
     let drawn = rw (c .before .before .before .before .before .before .before .before .before .before .before .before .before .before .before .before .before .before .before .before .before .no-totals .ensures, c .before .before .before .before .before .before .before .before .before .before .before .before .before .before .before .before .before .before .before .before .before .before .before .before .layer-volumes .ensures) at (c .before .before .before .before .before .before .before .before .before .before .before .before .before .before .before .before .before .before .before .before .draw-events .ensures) in
     let zeros = zeros-unheated _ (i .on .now) (i .figures .now) (i .flags .now) (i .rounds .now) (c .before .before .before .before .before .before .before .before .before .before .before .before .before .before .before .before .before .before .before .before .before .before .before .before .before .before .before .before .before .pre) in
-    let heated = start-with _ _ _ _ _ _ _ _ _ zeros ∙ (rw (c .before .before .before .before .before .before .before .before .before .before .before .before .before .before .before .before .before .before .before .before .before .before .before .before .layer-volumes .ensures) at (c .before .before .before .before .before .heat-turns .ensures .0)) in
-    (step-accepted f st a passed _ d drawn (c .before .before .before .before .before .before .before .before .before .before .before .before .before .before .before .before .before .before .if2 .left) _ (c .before .before .before .before .before .before .before .before .before .before .before .before .before .before .before .average-of .ensures) (c .before .before .before .before .before .heat-turns .result) _ _ _ heated (c .before .before .before .if3 .left) (sym (c .before .are-both-finite .ensures) ∙ not-false _ (c .if4 .left)) refl, λ z. c .before .before .before .before .before .heat-turns .ensures .1)
+    let heated = start-with _ _ _ _ _ _ _ _ _ zeros ∙ (rw (c .before .before .before .before .before .before .before .before .before .before .before .before .before .before .before .before .before .before .before .before .before .before .before .before .layer-volumes .ensures) at (c .before .before .before .before .before .heat-turns .ensures .works)) in
+    record { works = step-accepted f st a passed _ d drawn (c .before .before .before .before .before .before .before .before .before .before .before .before .before .before .before .before .before .before .if2 .left) _ (c .before .before .before .before .before .before .before .before .before .before .before .before .before .before .before .average-of .ensures) (c .before .before .before .before .before .heat-turns .result) _ _ _ heated (c .before .before .before .if3 .left) (sym (c .before .are-both-finite .ensures) ∙ not-false _ (c .if4 .left)) refl; holds = λ z. c .before .before .before .before .before .heat-turns .ensures .holds }
 
 pub work-step-spec : {M : Type 1} → statement M
 work-step-spec =

@@ -15,9 +15,9 @@ returns c =
     let i = c .before .before .before .before .before .before .before .before .before .before .before .before .before .before .before .before .before .before .before .before .before .before .before .before .before .before .before .before .before .before .args in
     let h = c .before .before .before .before .before .before .before .before .before .before .before .before .before .before .before .before .before .before .before .before .before .before .before .heaters-of .ensures in
     let p = c .before .before .before .before .before .before .before .before .before .before .before .before .before .before .before .before .before .before .before .before .present-of .ensures in
-    let fixed = fixed-back (i .t) _ _ _ (c .before .before .before .before .before .before .before .before .before .before .before .before .before .before .before .before .before .before .cylinder-in .ensures) (h .0) (c .before .before .before .before .before .before .before .before .before .before .before .before .before .before .before .before .before .before .before .before .before .before .thermostats-of .ensures) (h .1) in
-    let step = step-back (i .t3) _ _ (p .0) (c .before .before .before .before .before .before .before .before .before .before .before .before .before .before .before .before .before .before .before .set-points-of .ensures) (p .1) in
-    let worked = worked-for _ _ _ _ _ _ _ _ _ _ fixed step (c .before .before .work-step .ensures .0) in
+    let fixed = fixed-back (i .t) _ _ _ (c .before .before .before .before .before .before .before .before .before .before .before .before .before .before .before .before .before .before .cylinder-in .ensures) (h .is) (c .before .before .before .before .before .before .before .before .before .before .before .before .before .before .before .before .before .before .before .before .before .before .thermostats-of .ensures) (h .many) in
+    let step = step-back (i .t3) _ _ (p .is) (c .before .before .before .before .before .before .before .before .before .before .before .before .before .before .before .before .before .before .before .set-points-of .ensures) (p .many) in
+    let worked = worked-for _ _ _ _ _ _ _ _ _ _ fixed step (c .before .before .work-step .ensures .works) in
     step-noted (i .t) (i .report) (i .t3) _ _ _ _ _ worked _ (step-refuses (i .t) (i .report) (i .t3) _ _ _ _ _ worked (c .if1 .taken)) refl zeros-noted
 
 returns-2 : tie.Need-returns-2
@@ -25,9 +25,9 @@ returns-2 c =
     let i = c .before .before .before .before .before .before .before .before .before .before .before .before .before .before .before .before .before .before .before .before .before .before .before .before .before .before .before .before .before .before .before .before .before .before .before .args in
     let h = c .before .before .before .before .before .before .before .before .before .before .before .before .before .before .before .before .before .before .before .before .before .before .before .before .before .before .before .before .heaters-of .ensures in
     let p = c .before .before .before .before .before .before .before .before .before .before .before .before .before .before .before .before .before .before .before .before .before .before .before .before .before .present-of .ensures in
-    let fixed = fixed-back (i .t) _ _ _ (c .before .before .before .before .before .before .before .before .before .before .before .before .before .before .before .before .before .before .before .before .before .before .before .cylinder-in .ensures) (h .0) (c .before .before .before .before .before .before .before .before .before .before .before .before .before .before .before .before .before .before .before .before .before .before .before .before .before .before .before .thermostats-of .ensures) (h .1) in
-    let step = step-back (i .t3) _ _ (p .0) (c .before .before .before .before .before .before .before .before .before .before .before .before .before .before .before .before .before .before .before .before .before .before .before .before .set-points-of .ensures) (p .1) in
-    let worked = worked-for _ _ _ _ _ _ _ _ _ _ fixed step (c .before .before .before .before .before .before .before .work-step .ensures .0) in
+    let fixed = fixed-back (i .t) _ _ _ (c .before .before .before .before .before .before .before .before .before .before .before .before .before .before .before .before .before .before .before .before .before .before .before .cylinder-in .ensures) (h .is) (c .before .before .before .before .before .before .before .before .before .before .before .before .before .before .before .before .before .before .before .before .before .before .before .before .before .before .before .thermostats-of .ensures) (h .many) in
+    let step = step-back (i .t3) _ _ (p .is) (c .before .before .before .before .before .before .before .before .before .before .before .before .before .before .before .before .before .before .before .before .before .before .before .before .set-points-of .ensures) (p .many) in
+    let worked = worked-for _ _ _ _ _ _ _ _ _ _ fixed step (c .before .before .before .before .before .before .before .work-step .ensures .works) in
     step-noted (i .t) (i .report) (i .t3) _ _ _ _ _ worked _ (rw (c .accepted .ensures, c .before .lines-in .ensures) (step-accepts (i .t) (i .report) (i .t3) _ _ _ _ _ worked (c .before .before .before .before .before .if1 .left))) refl zeros-noted
 
 pub noted-step-spec : {M : Type 1} → statement M

@@ -8,7 +8,7 @@ use Rattle.tank_arrays.proofs.arrays.heaters_of.Tie as tie
 
 returns : tie.Need-returns
 unfolding tabulate heatersOf
-returns c = (refl, search needs)
+returns c = record { is = refl; many = search needs }
 
 pub heaters-of-spec : {M : Type 1} → statement M
 heaters-of-spec =

@@ -30,7 +30,7 @@ loop-again c =
 
 returns : tie.Need-returns Inv-loop μ-loop
 unfolding presentOf
-returns c = (rest-end _ _ _ _ _ (c .loop-test .left) (c .before .loop .inv) ∙ both-rows _ _ false, search needs)
+returns c = record { is = rest-end _ _ _ _ _ (c .loop-test .left) (c .before .loop .inv) ∙ both-rows _ _ false; many = search needs }
 
 pub present-of-spec : {M : Type 1} → statement M
 present-of-spec =

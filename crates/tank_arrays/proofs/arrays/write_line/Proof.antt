@@ -8,7 +8,10 @@ returns : tie.Need-returns
 returns c =
     let a = c .args in
     let l = c .pre .0 in
-    (line-written (a .figures .now) (a .flags .now) (a .rounds .now) (a .h) (a .x) l (c .pre .1), line-holds (a .figures .now) (a .flags .now) (a .rounds .now) (a .h) (a .x) l (c .pre .1))
+    record {
+      writes = line-written (a .figures .now) (a .flags .now) (a .rounds .now) (a .h) (a .x) l (c .pre .1);
+      holds = line-holds (a .figures .now) (a .flags .now) (a .rounds .now) (a .h) (a .x) l (c .pre .1);
+    }
 
 pub write-line-spec : {M : Type 1} → statement M
 write-line-spec =

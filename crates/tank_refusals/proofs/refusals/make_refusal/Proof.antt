@@ -9,7 +9,7 @@ returns : tie.Need-returns
 unfolding makeRefusal
 returns c =
     let h = c .before .before .before .before .before .heaters-of .ensures in
-    rw (c .before .before .before .before .before .before .before .cylinder-of .ensures, c .before .before .before .is-finite .ensures, h .0, c .before .before .before .before .thermostats-of .ensures, heaters-back _ (h .1)) at (c .tank-refusal .ensures)
+    rw (c .before .before .before .before .before .before .before .cylinder-of .ensures, c .before .before .before .is-finite .ensures, h .is, c .before .before .before .before .thermostats-of .ensures, heaters-back _ (h .many)) at (c .tank-refusal .ensures)
 
 pub make-refusal-spec : {M : Type 1} → statement M
 make-refusal-spec =
