@@ -1,6 +1,6 @@
 // One record of a job's history: the tank made, a heater added, a step's turns, or the end.
-ghost use Rattle.job_model.specs.Job.{Countable, Gives};
-ghost use Rattle.job_history.specs.History.{historyStep, historyRecord};
+ghost use Rattle.job_model.specs.Job.{Countable, Gives, stepRun};
+ghost use Rattle.job_history.specs.History.{stepHistory, historyRecord};
 use job_model::Job;
 use job_model::Printed;
 use job_records::Record;
@@ -9,7 +9,7 @@ use tank_model::Step;
 // A step's turns; the job goes on as it does when it prints its figures.
 fn tell_step(buf: &mut [u8], j: Job, next: usize, a: Step) -> Printed
     requires { ⌜ Countable j ⌝ }
-    ensures { λ r. ⌜ Gives (historyStep j next a) (now (buf .entry)) (now (buf .exit)) r ⌝ }
+    ensures { λ r. ⌜ Gives (stepRun stepHistory j next a) (now (buf .entry)) (now (buf .exit)) r ⌝ }
 {
     let before = j.tank;
     let last = j.report;

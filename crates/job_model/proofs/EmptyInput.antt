@@ -5,8 +5,8 @@ use Rattle.job_records.specs.Records.{readRecord}
 use Rattle.job_records.specs.Values.{valuesOf}
 use Rattle.job_lines.specs.Text.{digitOf, digits, widthFrom, widthOf, decimal}
 use Rattle.job_lines.specs.Lines.{refusalLine}
-use Rattle.job_model.specs.Job.{refusedRun, endRun, runOf, recordRun, runFrom, runAll, jobText}
+use Rattle.job_model.specs.Job.{refusedRun, endRun, runOf, runRecord, runFrom, runAll, jobText}
 
 pub empty-prints : jobText [] ≡ 69 ∷ 32 ∷ 49 ∷ 49 ∷ 32 ∷ 48 ∷ 10 ∷ []
-unfolding readRecord valuesOf digitOf digits widthFrom widthOf decimal refusalLine refusedRun endRun runOf recordRun runFrom runAll
+unfolding readRecord valuesOf digitOf digits widthFrom widthOf decimal refusalLine refusedRun endRun runOf runRecord runFrom runAll
 empty-prints = refl

@@ -70,4 +70,4 @@ module _ (f : Job → RecordRun) (size : ℕ) (moves : (j : Job) → Moves j siz
 
 -- the law
 pub job-ends : (bytes : List ℕ) → jobRun bytes .job .ended ≡ true
-job-ends bytes = run-ends (recordRun bytes) (length bytes) (λ j. record-moves j bytes)
+job-ends bytes = run-ends (recordRun bytes) (length bytes) (λ j. record-moves j _ bytes)

@@ -19,7 +19,7 @@ use Rattle.job_records.specs.WellFormed.{WellFormed}
 use Rattle.job_records.specs.Records.{refusedAt}
 use Rattle.job_records.proofs.ReadLaws.{read-either, well-formed-moves}
 use Rattle.job_model.specs.declared.Job.{Job}
-use Rattle.job_model.specs.Job.{RecordRun, designOf, withHeater, stepOf, readingOf, endedJob, offsetOf, withTank, refusedRun, madeRun, heaterRun, stepRun, endRun, runOf, recordRun}
+use Rattle.job_model.specs.Job.{RecordRun, designOf, withHeater, stepOf, readingOf, endedJob, offsetOf, withTank, refusedRun, madeRun, heaterRun, StepText, stepRun, endRun, runOf, runRecord}
 
 -- the job ends here, with no step more
 abbrev pub Ends : Job → RecordRun → Type 0
@@ -63,21 +63,21 @@ module _ (j : Job) where
         let n = heatersCheck (j .design .heaters + 1) in
         either Goes (eqb n 0) (madeRun j next d) (refusedRun j n) (made-goes d) (inl (refused-ends n))
 
-    step-goes : (a : Step) → Goes (stepRun j next a)
+    step-goes : (text : StepText) (a : Step) → Goes (stepRun text j next a)
     unfolding stepRun
-    step-goes a = inr (refl, refl, omega arith, refl)
+    step-goes text a = inr (refl, refl, omega arith, refl)
 
     -- every step is counted, refused or not
-    pub step-counted : (a : Step) → stepRun j next a .job .steps ≡ j .steps + 1
+    pub step-counted : (text : StepText) (a : Step) → stepRun text j next a .job .steps ≡ j .steps + 1
     unfolding stepRun
-    step-counted a = refl
+    step-counted text a = refl
 
-  of-goes : (bytes : List ℕ) (r : Reading) (x : Record) → Goes (r .next) (runOf bytes j r x)
+  of-goes : (text : StepText) (bytes : List ℕ) (r : Reading) (x : Record) → Goes (r .next) (runOf text bytes j r x)
   unfolding runOf
-  of-goes bytes r (Tank t) = made-goes (r .next) (designOf t)
-  of-goes bytes r (HeaterCase h) = heater-goes (r .next) h
-  of-goes bytes r (StepCase p) = step-goes (r .next) (stepOf p (r .volumes) (r .settings))
-  of-goes bytes r Refused = inl (end-ends (length bytes) _)
+  of-goes text bytes r (Tank t) = made-goes (r .next) (designOf t)
+  of-goes text bytes r (HeaterCase h) = heater-goes (r .next) h
+  of-goes text bytes r (StepCase p) = step-goes (r .next) text (stepOf p (r .volumes) (r .settings))
+  of-goes text bytes r Refused = inl (end-ends (length bytes) _)
 
   -- the law
   abbrev pub Moves : ℕ → RecordRun → Type 0
@@ -87,10 +87,21 @@ module _ (j : Job) where
   goes-moves size next t l (inl e) = inl e
   goes-moves size next t l (inr g) = inr (g .0, rw (g .1) (l .0), rw (g .1) (l .1), g .2, g .3)
 
-  pub record-moves : (bytes : List ℕ) → Moves (length bytes) (recordRun bytes j)
-  unfolding recordRun runOf
-  record-moves bytes = go (readingOf bytes j) (read-either bytes (j .at) (j .«has_tank») (j .design .heaters) (not (eqb (j .steps) 0)))
+  pub record-moves : (text : StepText) (bytes : List ℕ) → Moves (length bytes) (runRecord text bytes j)
+  unfolding runRecord runOf
+  record-moves text bytes = go (readingOf bytes j) (read-either bytes (j .at) (j .«has_tank») (j .design .heaters) (not (eqb (j .steps) 0)))
     where
-      go : (r : Reading) → WellFormed bytes (j .at) (j .«has_tank») (j .design .heaters) (not (eqb (j .steps) 0)) r ⊎ (r ≡ refusedAt (j .at)) → Moves (length bytes) (runOf bytes j r (r .content))
-      go r (inl w) = goes-moves (length bytes) (r .next) (runOf bytes j r (r .content)) (well-formed-moves bytes (j .at) (j .«has_tank») (j .design .heaters) (not (eqb (j .steps) 0)) r w) (of-goes bytes r (r .content))
+      go : (r : Reading) → WellFormed bytes (j .at) (j .«has_tank») (j .design .heaters) (not (eqb (j .steps) 0)) r ⊎ (r ≡ refusedAt (j .at)) → Moves (length bytes) (runOf text bytes j r (r .content))
+      go r (inl w) = goes-moves (length bytes) (r .next) (runOf text bytes j r (r .content)) (well-formed-moves bytes (j .at) (j .«has_tank») (j .design .heaters) (not (eqb (j .steps) 0)) r w) (of-goes text bytes r (r .content))
       go r (inr e) = rw e (inl (end-ends (length bytes) _))
+
+-- whatever is printed of its steps, a job goes from record to record in the same way
+pub same-job : (text other : StepText) (bytes : List ℕ) (j : Job) → runRecord text bytes j .job ≡ runRecord other bytes j .job
+unfolding runRecord runOf stepRun
+same-job text other bytes j = go (readingOf bytes j) (readingOf bytes j .content)
+  where
+    go : (r : Reading) (x : Record) → runOf text bytes j r x .job ≡ runOf other bytes j r x .job
+    go r (Tank t) = refl
+    go r (HeaterCase h) = refl
+    go r (StepCase p) = refl
+    go r Refused = refl

@@ -22,7 +22,7 @@ use Rattle.job_records.specs.Windows.{Window, AreBytes, maxRecord, movedTo}
 use Rattle.job_records.proofs.ReadLaws.{read-either, well-formed-moves}
 use Rattle.job_records.proofs.WindowLaws.{window-reads}
 use Rattle.job_model.specs.declared.Job.{Job}
-use Rattle.job_model.specs.Job.{RecordRun, designOf, withHeater, stepOf, offsetOf, readingOf, endedJob, withTank, refusedRun, madeRun, heaterRun, stepRun, endRun, runOf, recordRun}
+use Rattle.job_model.specs.Job.{RecordRun, designOf, withHeater, stepOf, offsetOf, readingOf, endedJob, withTank, refusedRun, madeRun, heaterRun, StepText, stepRun, endRun, runOf, runRecord}
 use Rattle.job_model.specs.Windows.{inWhole, runInWhole}
 
 -- the record at a window's position can be read there: nothing follows the window, or no record reaches past it
@@ -59,9 +59,9 @@ module _ (j : Job) where
         let n = heatersCheck (j .design .heaters + 1) in
         alike (eqb n 0) (madeRun (inWhole j) (offsetOf j + (next - j .at)) d) (refusedRun (inWhole j) n) (madeRun j next d) (refusedRun j n) (made-whole d) (refused-whole n)
 
-    step-whole : (a : Step) → stepRun (inWhole j) (offsetOf j + (next - j .at)) a ≡ runInWhole (stepRun j next a)
+    step-whole : (text : StepText) (a : Step) → stepRun text (inWhole j) (offsetOf j + (next - j .at)) a ≡ runInWhole (stepRun text j next a)
     unfolding stepRun
-    step-whole a = rw same-next
+    step-whole text a = rw same-next
 
 module _ (s w : List ℕ) (j : Job) (placed : j .at ≤ length w) (inside : j .before + length w ≤ length s) (ready : Ready s w j) where
   same-end : eqb (offsetOf j) (length s) ≡ eqb (j .at) (length w)
@@ -81,14 +81,14 @@ module _ (s w : List ℕ) (j : Job) (placed : j .at ≤ length w) (inside : j .b
       rw (same-offset j, same-end)
       (alike (eqb (j .at) (length w) && not (eqb (offsetOf j) 0)) (record { job = endedJob (inWhole j); text = [] }) (refusedRun (inWhole j) n) (record { job = endedJob j; text = [] }) (refusedRun j n) refl (refused-whole j n))
 
-  pub of-whole : (r : Reading) → j .at ≤ r .next → (x : Record) → runOf s (inWhole j) (movedTo (j .at) (offsetOf j) r) x ≡ runInWhole (runOf w j r x)
+  of-whole : (text : StepText) (r : Reading) → j .at ≤ r .next → (x : Record) → runOf text s (inWhole j) (movedTo (j .at) (offsetOf j) r) x ≡ runInWhole (runOf text w j r x)
   unfolding runOf
-  of-whole r l (Tank t) = made-whole j (r .next) l (designOf t)
-  of-whole r l (HeaterCase h) = heater-whole j (r .next) l h
-  of-whole r l (StepCase p) = step-whole j (r .next) l (stepOf p (r .volumes) (r .settings))
-  of-whole r l Refused = end-whole _
+  of-whole text r l (Tank t) = made-whole j (r .next) l (designOf t)
+  of-whole text r l (HeaterCase h) = heater-whole j (r .next) l h
+  of-whole text r l (StepCase p) = step-whole j (r .next) l text (stepOf p (r .volumes) (r .settings))
+  of-whole text r l Refused = end-whole _
 
-  pub reading-moves : j .at ≤ readingOf w j .next
+  reading-moves : j .at ≤ readingOf w j .next
   reading-moves = go (readingOf w j) (read-either w (j .at) (j .«has_tank») (j .design .heaters) (not (eqb (j .steps) 0)))
     where
       go : (r : Reading) → WellFormed w (j .at) (j .«has_tank») (j .design .heaters) (not (eqb (j .steps) 0)) r ⊎ (r ≡ refusedAt (j .at)) → j .at ≤ r .next
@@ -96,11 +96,11 @@ module _ (s w : List ℕ) (j : Job) (placed : j .at ≤ length w) (inside : j .b
       go r (inr e) = rw e (omega arith)
 
 -- what the reading is in the whole input
-pub reading-whole : (s : List ℕ) → AreBytes s → (w : List ℕ) (j : Job) → Window s (j .before) w → Ready s w j → readingOf s (inWhole j) ≡ movedTo (j .at) (offsetOf j) (readingOf w j)
+reading-whole : (s : List ℕ) → AreBytes s → (w : List ℕ) (j : Job) → Window s (j .before) w → Ready s w j → readingOf s (inWhole j) ≡ movedTo (j .at) (offsetOf j) (readingOf w j)
 reading-whole s bytes w j window ready = window-reads s bytes (j .before) w window (j .at) ready (j .«has_tank») (j .design .heaters) (not (eqb (j .steps) 0))
 
 -- the law
-pub record-window : (s : List ℕ) → AreBytes s → (w : List ℕ) (j : Job) → Window s (j .before) w → j .at ≤ length w → Ready s w j → recordRun s (inWhole j) ≡ runInWhole (recordRun w j)
-unfolding recordRun
-record-window s bytes w j window placed ready =
-    rw (reading-whole s bytes w j window ready) (of-whole s w j placed (window .inside) ready (readingOf w j) (reading-moves s w j placed (window .inside) ready) (readingOf w j .content))
+pub record-window : (text : StepText) (s : List ℕ) → AreBytes s → (w : List ℕ) (j : Job) → Window s (j .before) w → j .at ≤ length w → Ready s w j → runRecord text s (inWhole j) ≡ runInWhole (runRecord text w j)
+unfolding runRecord
+record-window text s bytes w j window placed ready =
+    rw (reading-whole s bytes w j window ready) (of-whole s w j placed (window .inside) ready text (readingOf w j) (reading-moves s w j placed (window .inside) ready) (readingOf w j .content))

@@ -11,7 +11,7 @@ use lib.ListN.{length}
 use Rattle.job_records.specs.Windows.{Window, AreBytes, maxRecord, isReady}
 use Rattle.numeric.specs.Holds.{both}
 use Rattle.job_model.specs.declared.Job.{Job}
-use Rattle.job_model.specs.Job.{RecordRun, offsetOf, followed, recordRun, runAll, jobText}
+use Rattle.job_model.specs.Job.{RecordRun, offsetOf, followed, StepText, stepFigures, runRecord, recordRun, runAll, jobText}
 use Rattle.job_model.specs.Windows.{inWhole, runInWhole, movedUp, runReady, windowRecords, windowRun, Windowed, begun, another}
 use Rattle.job_model.proofs.Moves.{Moves, record-moves}
 use Rattle.job_model.proofs.Ends.{Within, recordsLeft, record-within, record-before, record-less}
@@ -141,13 +141,13 @@ module _ (f : List ℕ → Job → RecordRun) (s : List ℕ) (law : Windows f s)
 
 -- ---- the theorem, for what a job prints
 
-pub record-windows : (s : List ℕ) → AreBytes s → Windows recordRun s
-record-windows s bytes = record { moves = λ b j. record-moves j b; whole = record-window s bytes }
+pub record-windows : (text : StepText) (s : List ℕ) → AreBytes s → Windows (runRecord text) s
+record-windows text s bytes = record { moves = λ b j. record-moves j _ b; whole = record-window text s bytes }
 
 -- a job that is told window by window to its end prints what the whole job prints
 pub job-windowed : (s : List ℕ) → AreBytes s → (j : Job) (text : List ℕ) → Windowed recordRun s j text → j .ended ≡ true → text ≡ jobText s
-job-windowed s bytes = windowed-whole recordRun s (record-windows s bytes)
+job-windowed s bytes = windowed-whole recordRun s (record-windows stepFigures s bytes)
 
 -- and the last window takes it to its end
 pub job-last-ends : (s : List ℕ) → AreBytes s → (j : Job) (text : List ℕ) → Windowed recordRun s j text → (w : List ℕ) → windowRun recordRun w true j .job .ended ≡ true
-job-last-ends s bytes = last-window-ends recordRun s (record-windows s bytes)
+job-last-ends s bytes = last-window-ends recordRun s (record-windows stepFigures s bytes)

@@ -135,27 +135,38 @@ abbrev pub afterStep : Job → ℕ → StorageTank → Report → Job
 afterStep j next t r =
     record { before = j .before; at = next; ended = j .ended; «has_tank» = j .«has_tank»; steps = j .steps + 1; design = j .design; tank = t; report = r }
 
+-- what is printed of a step, by its index and what it finds: its figures, or its history
+abbrev pub StepText : Type 0
+StepText = ℕ → StorageTank → Report → Step → List ℕ
+
+abbrev pub stepFigures : StepText
+stepFigures index t r a = stepLines index (stepped t r a)
+
 -- a step's lines; refused or not, the job goes on and the index counts it
-unfoldable pub stepRun : Job → ℕ → Step → RecordRun
-stepRun j next a =
+unfoldable pub stepRun : StepText → Job → ℕ → Step → RecordRun
+stepRun text j next a =
     let s = stepped (j .tank) (j .report) a in
-    record { job = afterStep j next (s .tank) (s .report); text = stepLines (j .steps) s }
+    record { job = afterStep j next (s .tank) (s .report); text = text (j .steps) (j .tank) (j .report) a }
 
 -- the input's end ends the program; empty input, and any other refused record, is refused with the number of the reader's answer
 unfoldable pub endRun : ℕ → Job → ℕ → RecordRun
 endRun size j number = cond (eqb (j .at) size && not (eqb (offsetOf j) 0)) (record { job = endedJob j; text = [] }) (refusedRun j number)
 
-unfoldable pub runOf : List ℕ → Job → Reading → Record → RecordRun
-runOf bytes j r (Tank t) = madeRun j (r .next) (designOf t)
-runOf bytes j r (HeaterCase h) = heaterRun j (r .next) h
-runOf bytes j r (StepCase p) = stepRun j (r .next) (stepOf p (r .volumes) (r .settings))
-runOf bytes j r Refused = endRun (length bytes) j (numberIn Refused)
+unfoldable pub runOf : StepText → List ℕ → Job → Reading → Record → RecordRun
+runOf text bytes j r (Tank t) = madeRun j (r .next) (designOf t)
+runOf text bytes j r (HeaterCase h) = heaterRun j (r .next) h
+runOf text bytes j r (StepCase p) = stepRun text j (r .next) (stepOf p (r .volumes) (r .settings))
+runOf text bytes j r Refused = endRun (length bytes) j (numberIn Refused)
 
 abbrev pub readingOf : List ℕ → Job → Reading
 readingOf bytes j = readRecord bytes (j .at) (j .«has_tank») (j .design .heaters) (not (eqb (j .steps) 0))
 
-unfoldable pub recordRun : List ℕ → Job → RecordRun
-recordRun bytes j = runOf bytes j (readingOf bytes j) (readingOf bytes j .content)
+-- the record that stands next, whatever is printed of a step
+unfoldable pub runRecord : StepText → List ℕ → Job → RecordRun
+runRecord text bytes j = runOf text bytes j (readingOf bytes j) (readingOf bytes j .content)
+
+abbrev pub recordRun : List ℕ → Job → RecordRun
+recordRun = runRecord stepFigures
 
 -- ---- the whole job
 

@@ -1,6 +1,6 @@
 // One record of a job: the tank made, a heater added, a step run, or the end.
 ghost use mathlib.Core.Path.{_≡_};
-ghost use Rattle.job_model.specs.Job.{Countable, Gives, refusedRun, madeRun, heaterRun, stepRun, endRun, recordRun, endedJob};
+ghost use Rattle.job_model.specs.Job.{Countable, Gives, refusedRun, madeRun, heaterRun, stepFigures, stepRun, endRun, recordRun, endedJob};
 use job_model::Job;
 use job_model::Printed;
 use job_records::Record;
@@ -63,7 +63,7 @@ pub fn add_heater(buf: &mut [u8], j: Job, next: usize, h: Heater) -> Printed
 // A step, refused or not: its lines, and the job goes on.
 fn run_step(buf: &mut [u8], j: Job, next: usize, a: Step) -> Printed
     requires { ⌜ Countable j ⌝ }
-    ensures { λ r. ⌜ Gives (stepRun j next a) (now (buf .entry)) (now (buf .exit)) r ⌝ }
+    ensures { λ r. ⌜ Gives (stepRun stepFigures j next a) (now (buf .entry)) (now (buf .exit)) r ⌝ }
 {
     let before = j.tank;
     let last = j.report;

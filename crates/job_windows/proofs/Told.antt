@@ -11,13 +11,10 @@ use Rattle.job_model.specs.declared.Ran.{Ran}
 use Rattle.job_model.specs.Job.{RecordRun}
 use Rattle.job_model.specs.Handed.{Sends}
 use Rattle.job_model.proofs.Moves.{Moves, record-moves}
-use Rattle.job_history.proofs.HistoryMoves.{history-moves}
 use Rattle.job_windows.specs.Kinds.{linesOf}
 
 pub lines-move : (history : Bool) (bytes : List ℕ) (j : Job) → Moves j (length bytes) (linesOf history bytes j)
-unfolding linesOf
-lines-move true bytes j = history-moves bytes j
-lines-move false bytes j = record-moves j bytes
+lines-move history bytes j = record-moves j _ bytes
 
 -- lines that were sent: all of them, or not
 pub all-sent : (t : RecordRun) (r : Ran) → Sends t r → r .failed ≡ false → r .taken ≡ length (t .text)

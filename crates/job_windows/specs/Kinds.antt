@@ -4,13 +4,16 @@ use mathlib.Core.Bool.{Bool, true, false}
 use mathlib.Core.List.{List}
 use lib.ListN.{length}
 use Rattle.job_model.specs.declared.Job.{Job}
-use Rattle.job_model.specs.Job.{RecordRun, recordRun}
-use Rattle.job_history.specs.History.{historyRecord}
+use Rattle.job_model.specs.Job.{RecordRun, StepText, stepFigures, runRecord}
+use Rattle.job_history.specs.History.{stepHistory}
 use Rattle.input_window.specs.Window.{maxWindow}
 
-unfoldable pub linesOf : Bool → List ℕ → Job → RecordRun
-linesOf true bytes j = historyRecord bytes j
-linesOf false bytes j = recordRun bytes j
+unfoldable pub textOf : Bool → StepText
+textOf true = stepHistory
+textOf false = stepFigures
+
+abbrev pub linesOf : Bool → List ℕ → Job → RecordRun
+linesOf history = runRecord (textOf history)
 
 -- the job stands within the window, has counted no more steps than records can have passed, and its input is no longer than can be counted
 abbrev pub InWindow : List ℕ → Job → Type 0

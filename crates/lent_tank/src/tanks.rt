@@ -1,42 +1,27 @@
 // A tank, from the arrays that hold it and back.
 ghost use mathlib.Core.Path.{_≡_};
-ghost use Prim.Native.Nat.{_<_};
-ghost use Rattle.working_order.specs.Order.{maxHeaters};
-ghost use Rattle.tank_arrays.specs.Arrays.{heaterIn, fittedIn};
+ghost use Rattle.tank_arrays.specs.Arrays.{fittedIn};
 ghost use Rattle.lent_tank.specs.Tanks.{tankIn, designIn, countsOf, numbersOf};
 use mixing::limits::MAX_LAYERS;
 use storage_tank::StorageTank;
 use tank_arrays::arrays::THREE_EACH;
-use tank_arrays::arrays::TWO_EACH;
+use tank_arrays::arrays::heater_at;
 use tank_model::Heater;
 use tank_model::TankDesign;
 use working_order::MAX_HEATERS;
-
-// The heater h: rated powers stand first, then positions, then thermostat positions.
-fn heater_in(xs: [f64; THREE_EACH], bs: [bool; MAX_HEATERS], h: usize) -> Heater
-    requires { ⌜ h < maxHeaters ⌝ }
-    ensures { λ r. ⌜ r ≡ heaterIn xs bs h ⌝ }
-{
-    Heater {
-        rated: xs[h],
-        position: xs[MAX_HEATERS + h],
-        has_thermostat: bs[h],
-        thermostat: xs[TWO_EACH + h],
-    }
-}
 
 fn fitted_in(xs: [f64; THREE_EACH], bs: [bool; MAX_HEATERS]) -> [Heater; MAX_HEATERS]
     ensures { λ r. ⌜ r ≡ fittedIn xs bs ⌝ }
 {
     [
-        heater_in(xs, bs, 0),
-        heater_in(xs, bs, 1),
-        heater_in(xs, bs, 2),
-        heater_in(xs, bs, 3),
-        heater_in(xs, bs, 4),
-        heater_in(xs, bs, 5),
-        heater_in(xs, bs, 6),
-        heater_in(xs, bs, 7),
+        heater_at(&xs, &bs, 0),
+        heater_at(&xs, &bs, 1),
+        heater_at(&xs, &bs, 2),
+        heater_at(&xs, &bs, 3),
+        heater_at(&xs, &bs, 4),
+        heater_at(&xs, &bs, 5),
+        heater_at(&xs, &bs, 6),
+        heater_at(&xs, &bs, 7),
     ]
 }
 

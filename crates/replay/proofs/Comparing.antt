@@ -35,7 +35,7 @@ module _ (bytes stored : List ℕ) (j : Job) (at : ℕ) (c : Comparing bytes sto
   parted : j .ended ≡ false → (b : Bool) → beginsWith (drop at stored) (recordRun bytes j .text) ≡ b → sameText stored (jobText bytes) ≡ cond b (sameText (drop (length (recordRun bytes j .text)) (drop at stored)) (restOf (recordRun bytes) (length bytes) (recordRun bytes j .job) .text)) false
   parted e b h =
       c .decides
-      ∙ ap (λ (t : RecordRun). sameText (drop at stored) (t .text)) (rest-next (recordRun bytes) (length bytes) (λ i. record-moves i bytes) j (c .within) e)
+      ∙ ap (λ (t : RecordRun). sameText (drop at stored) (t .text)) (rest-next (recordRun bytes) (length bytes) (λ i. record-moves i _ bytes) j (c .within) e)
       ∙ rw h at (same-parts (drop at stored) (recordRun bytes j .text) (restOf (recordRun bytes) (length bytes) (recordRun bytes j .job) .text))
 
   pub comparing-differs : j .ended ≡ false → beginsWith (drop at stored) (recordRun bytes j .text) ≡ false → sameText stored (jobText bytes) ≡ false
@@ -47,8 +47,8 @@ module _ (bytes stored : List ℕ) (j : Job) (at : ℕ) (c : Comparing bytes sto
       let left = length-drop at stored in
       let placed = c .placed in
       record {
-        within = record-within (recordRun bytes) (length bytes) (λ i. record-moves i bytes) j (c .within);
-        first = record-before (recordRun bytes) (length bytes) (λ i. record-moves i bytes) j (c .within) ∙ c .first;
+        within = record-within (recordRun bytes) (length bytes) (λ i. record-moves i _ bytes) j (c .within);
+        first = record-before (recordRun bytes) (length bytes) (λ i. record-moves i _ bytes) j (c .within) ∙ c .first;
         placed = omega arith;
         decides = rw (drop-drop (length (recordRun bytes j .text)) at stored) at (parted e true h);
       }

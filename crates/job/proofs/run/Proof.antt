@@ -41,21 +41,21 @@ returns c =
     let at = c .before .before .before .before .before .before .loop in
     let p = c .before .before .before .print-record in
     let bytes = c .before .before .before .before .before .before .before .before .before .args .bytes .now in
-    handing-cut (recordRun bytes) (length bytes) (λ j. record-moves j bytes) (at .job) (at .taken) (p .result) (at .inv) (not-true _ (c .before .before .before .before .if1 .taken)) (p .ensures) (c .if2 .taken)
+    handing-cut (recordRun bytes) (length bytes) (λ j. record-moves j _ bytes) (at .job) (at .taken) (p .result) (at .inv) (not-true _ (c .before .before .before .before .if1 .taken)) (p .ensures) (c .if2 .taken)
 
 loop-less : tie.Need-loop-less Inv-loop μ-loop
 loop-less c =
     let at = c .before .before .before .before .before .before .loop in
     let bytes = c .before .before .before .before .before .before .before .before .before .args .bytes .now in
     rw (c .before .before .before .print-record .ensures .goes)
-    (record-shortens (recordRun bytes) (length bytes) (λ j. record-moves j bytes) (at .job) (at .inv .printing .within) (not-true _ (c .before .before .before .before .if1 .taken)))
+    (record-shortens (recordRun bytes) (length bytes) (λ j. record-moves j _ bytes) (at .job) (at .inv .printing .within) (not-true _ (c .before .before .before .before .if1 .taken)))
 
 loop-again : tie.Need-loop-again Inv-loop μ-loop
 loop-again c =
     let at = c .before .before .before .before .before .before .loop in
     let p = c .before .before .before .print-record in
     let bytes = c .before .before .before .before .before .before .before .before .before .args .bytes .now in
-    handing-next (recordRun bytes) (length bytes) (λ j. record-moves j bytes) (at .job) (at .taken) (p .result) (at .inv) (not-true _ (c .before .before .before .before .if1 .taken)) (p .ensures) (c .if2 .left)
+    handing-next (recordRun bytes) (length bytes) (λ j. record-moves j _ bytes) (at .job) (at .taken) (p .result) (at .inv) (not-true _ (c .before .before .before .before .if1 .taken)) (p .ensures) (c .if2 .left)
 
 returns-2 : tie.Need-returns-2 Inv-loop μ-loop
 returns-2 c =

@@ -52,7 +52,7 @@ loop-less : tie.Need-loop-less Inv-loop μ-loop
 loop-less c =
     let at = c .before .before .before .before .before .before .before .before .before .before .loop in
     rw (c .before .before .before .before .before .next-record .ensures .goes)
-    (record-shortens (recordRun (c .before .before .before .before .before .before .before .before .before .before .before .before .before .before .args .bytes .now)) (length (c .before .before .before .before .before .before .before .before .before .before .before .before .before .before .args .bytes .now)) (λ j. record-moves j (c .before .before .before .before .before .before .before .before .before .before .before .before .before .before .args .bytes .now)) (at .job) (at .inv .within) (not-true _ (c .before .before .before .before .before .before .before .before .if1 .taken)))
+    (record-shortens (recordRun (c .before .before .before .before .before .before .before .before .before .before .before .before .before .before .args .bytes .now)) (length (c .before .before .before .before .before .before .before .before .before .before .before .before .before .before .args .bytes .now)) (λ j. record-moves j _ (c .before .before .before .before .before .before .before .before .before .before .before .before .before .before .args .bytes .now)) (at .job) (at .inv .within) (not-true _ (c .before .before .before .before .before .before .before .before .if1 .taken)))
 
 loop-again : tie.Need-loop-again Inv-loop μ-loop
 loop-again c =

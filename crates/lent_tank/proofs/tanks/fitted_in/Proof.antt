@@ -7,7 +7,7 @@ use Rattle.lent_tank.proofs.tanks.fitted_in.Tie as tie
 
 returns : tie.Need-returns
 unfolding tabulate fittedIn
-returns c = rw (c .heater-in8 .ensures, c .before .heater-in7 .ensures, c .before .before .heater-in6 .ensures, c .before .before .before .heater-in5 .ensures, c .before .before .before .before .heater-in4 .ensures, c .before .before .before .before .before .heater-in3 .ensures, c .before .before .before .before .before .before .heater-in2 .ensures, c .before .before .before .before .before .before .before .heater-in .ensures)
+returns c = rw (c .heater-at8 .ensures, c .before .before .before .heater-at7 .ensures, c .before .before .before .before .before .before .heater-at6 .ensures, c .before .before .before .before .before .before .before .before .before .heater-at5 .ensures, c .before .before .before .before .before .before .before .before .before .before .before .before .heater-at4 .ensures, c .before .before .before .before .before .before .before .before .before .before .before .before .before .before .before .heater-at3 .ensures, c .before .before .before .before .before .before .before .before .before .before .before .before .before .before .before .before .before .before .heater-at2 .ensures, c .before .before .before .before .before .before .before .before .before .before .before .before .before .before .before .before .before .before .before .before .before .heater-at .ensures)
 
 pub fitted-in-spec : {M : Type 1} → statement M
 fitted-in-spec =
