@@ -33,7 +33,7 @@ returns-2 c =
     let test = ran .before .before in
     let at = test .before .loop in
     let round = ran .try-round .ensures (not-false _ (c .before .if1 .left)) in
-    let e = at .inv .2 ∙ (rounds-next _ (at .k) _ _ _ _ true (test .loop-test .taken) (round .0) (sym (round .1) ∙ c .if2 .taken) ∙ rounds-sorted _ _ _ _ _) in
+    let e = at .inv .2 ∙ (rounds-next _ (at .k) _ _ _ _ true (test .loop-test .taken) (round .leaves) (sym (round .tells) ∙ c .if2 .taken) ∙ rounds-sorted _ _ _ _ _) in
     record { answers = sym (ap answerOf e); leaves = sym (ap (tempsOf _) e) }
 
 loop-again : tie.Need-loop-again Inv-loop μ-loop
@@ -42,7 +42,7 @@ loop-again c =
     let test = ran .before .before in
     let at = test .before .loop in
     let round = ran .try-round .ensures (not-false _ (c .before .if1 .left)) in
-    (omega arith, at .inv .1, at .inv .2 ∙ rounds-next _ (at .k) _ _ _ _ false (test .loop-test .taken) (round .0) (sym (round .1) ∙ c .if2 .left))
+    (omega arith, at .inv .1, at .inv .2 ∙ rounds-next _ (at .k) _ _ _ _ false (test .loop-test .taken) (round .leaves) (sym (round .tells) ∙ c .if2 .left))
 
 returns-3 : tie.Need-returns-3 Inv-loop μ-loop
 returns-3 c =
