@@ -2,7 +2,7 @@
 use Prim.Native.Nat.{ℕ, _<_}
 use native.Mathlib.Omega.{arith}
 use mathlib.Core.Bool.{Bool, true, false}
-use mathlib.Core.List.{List, [], _∷_}
+use mathlib.Core.List.{List}
 use lib.Ieee.{Float}
 use Rattle.numeric.specs.Descent.{descend-keeps}
 use Rattle.numeric.specs.Places.{Keeps, keeps-self, keeps-trans, keeps-set}

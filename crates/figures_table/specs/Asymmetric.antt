@@ -219,7 +219,9 @@ kept =
     lent
     (tankWith (two 0) 1 (own-thermostat half ++ replicate 7 junk) (wholes (30 ∷ 60 ∷ []) ++ replicate 30 nan) (replicate 8 true))
     (asks (whole 20) (wholes (8 ∷ [])) upper ∷ [])
-    (answer 0 (tankWith (two 0) 1 (padded 8 (own-thermostat half) junk) (padded 32 (wholes (35 ∷ 45 ∷ [])) nan) (replicate 8 true)) (report-after 640 8) ∷ [])
+    (answer 0
+    (tankWith (two 0) 1 (padded 8 (own-thermostat half) junk) (padded 32 (wholes (35 ∷ 45 ∷ [])) nan) (replicate 8 true))
+    (report-after 640 8) ∷ [])
 
 -- ---- the table
 

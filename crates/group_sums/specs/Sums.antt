@@ -28,9 +28,14 @@ EvenSum vol x p bottom end r =
     (r ≡ heatSum vol x bottom end)
     ⊎ (finite (r .s) ≡ true → r ≡ iterate (addAt (λ (k : ℕ). p)) (end - bottom) bottom nothing-added)
 
--- the sum a with the term b, which is `known` where the term c of that one has the value of b
+-- r is `known`, a sum with the term c, which has the value of b
+pub record KnownSum (b c : Float) (known r : Accumulator) : Type 0 where
+  pub is-known : r ≡ known
+  pub same-value : SameValue c b
+
+-- the sum a with the term b: worked, or known
 abbrev pub OneMore : Accumulator → Float → Float → Accumulator → Accumulator → Type 0
-OneMore a b c known r = (r ≡ accumulate a b) ⊎ ((r ≡ known) × SameValue c b)
+OneMore a b c known r = (r ≡ accumulate a b) ⊎ KnownSum b c known r
 
 -- a guess at the total of a layer's own heat and the heat p, volume v × temp, of each of more + 1 layers
 -- nothing rests on it: it is used where the total is the same

@@ -7,7 +7,7 @@ use lib.Ieee.{Float}
 use Rattle.mixing.specs.declared.MixAnswer.{MixAnswer}
 use Rattle.mixing.specs.declared.MixAnswer.the-variants.{Mixed, Refused}
 use Rattle.mixing.specs.Rearrange.{Mixing, sorted, unsorted, rearrange}
-use Rattle.mixing.specs.Mix.{answerOf, tempsOf}
+use Rattle.mixing.specs.Mix.{answerOf, tempsOf, Rearranged}
 use Rattle.cylinder.specs.declared.Cylinder.{Cylinder}
 use Rattle.set_points.specs.declared.SetPoints.{SetPoints}
 use Rattle.heating.specs.Heat.{heated}
@@ -37,10 +37,9 @@ module _ (c : Cylinder) (vol : List Float) (p : SetPoints) (layer : ℕ) (offers
   unfolding calcFinalTemps heatAndMix
   final-mixing x m = rw (← g, m)
 
-  pub final-sorted : (after : List Float) (k : ℕ) (answer : MixAnswer) → answer ≡ answerOf (rearrange (c .layers) vol heat)
-      → after ≡ tempsOf heat (rearrange (c .layers) vol heat) → answer ≡ Mixed k
+  pub final-sorted : (after : List Float) (k : ℕ) (answer : MixAnswer) → Rearranged (c .layers) vol heat answer after → answer ≡ Mixed k
       → calcFinalTemps c vol p layer offers temps charged ≡ afterMixing c vol p layer offers temps charged (sorted after k)
-  final-sorted after k answer a t m = final-mixing (sorted after k) (rw t (mixed-sorted (rearrange (c .layers) vol heat) heat k (sym a ∙ m)))
+  final-sorted after k answer r m = final-mixing (sorted after k) (rw (r .leaves) (mixed-sorted (rearrange (c .layers) vol heat) heat k (sym (r .answers) ∙ m)))
 
   pub final-unsorted : (number : ℕ) (answer : MixAnswer) → answer ≡ answerOf (rearrange (c .layers) vol heat) → answer ≡ Refused number
       → calcFinalTemps c vol p layer offers temps charged ≡ afterMixing c vol p layer offers temps charged unsorted

@@ -1,5 +1,4 @@
 // `calc_final_temps`: the layers are heated by what they are offered and mixed; then they lose heat and are limited.
-ghost use mathlib.Core.Path.{_≡_};
 ghost use Prim.Native.Nat.{_≤_, _<_};
 ghost use Rattle.mixing.specs.Limits.{maxLayers};
 ghost use Rattle.heating.specs.Heat.{offersTo};

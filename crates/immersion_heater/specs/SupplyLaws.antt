@@ -56,7 +56,8 @@ unfolding accumulate add sub neg ofBits
 zero-added true = refl
 zero-added false = refl
 
-add-zeros : (offers : ℕ → Float) → ((k : ℕ) → IsZero (offers k)) → (n i : ℕ) → accumulateAll (tabulate offers n i) nothing-added ≡ nothing-added
+add-zeros : (offers : ℕ → Float) → ((k : ℕ) → IsZero (offers k)) → (n i : ℕ)
+    → accumulateAll (tabulate offers n i) nothing-added ≡ nothing-added
 unfolding tabulate accumulateAll
 add-zeros offers h zero i = refl
 add-zeros offers h (suc n) i = rw (h i .1, zero-added (h i .0)) (add-zeros offers h n (i + 1))

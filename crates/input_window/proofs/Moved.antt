@@ -1,5 +1,5 @@
 -- Proves the laws of bytes that are moved down to the front of a buffer, one after the other: one byte more, which the loop cites, and what then stands first.
-use Prim.Native.Nat.{ℕ, suc, _+_, _-_, _≤_, _<_}
+use Prim.Native.Nat.{ℕ, suc, _+_, _≤_, _<_}
 use native.Mathlib.Omega.{arith}
 use native.Mathlib.Numerals.{add-one}
 use mathlib.Core.List.{List, _∷_, _++_}

@@ -1,5 +1,5 @@
 -- Proves what a loop cites that stops at the first write that fails (01, Job): one record more of a job; and that what was taken is a beginning of its text, and not all of it.
-use Prim.Native.Nat.{ℕ, zero, suc, _+_, _≤_, _<_}
+use Prim.Native.Nat.{ℕ, zero, suc, _+_, _<_}
 use native.Mathlib.Omega.{arith}
 use mathlib.Core.Bool.{Bool, true, false, true≢false}
 use mathlib.Core.List.{[], _++_, append-assoc, append-nil}

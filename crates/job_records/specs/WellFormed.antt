@@ -17,7 +17,8 @@ pub record Stands (s : List ℕ) (at kind size : ℕ) : Type 0 where
 
 -- the tank comes once and before all others, a heater after a tank and before any step, a step after a tank; never more than 8 heaters came before
 pub data WellFormed (s : List ℕ) (at : ℕ) (tank : Bool) (heaters : ℕ) (step : Bool) : Reading → Type 0 where
-  tank-record : Stands s at 1 60 → tank ≡ false → heaters ≡ 0 → step ≡ false → WellFormed s at tank heaters step (plainReading (tankRecordAt s at) (at + 64))
+  tank-record : Stands s at 1 60 → tank ≡ false → heaters ≡ 0 → step ≡ false
+      → WellFormed s at tank heaters step (plainReading (tankRecordAt s at) (at + 64))
   heater-record : Stands s at 2 27 → tank ≡ true → heaters ≤ maxHeaters → step ≡ false → byteAt s (at + 22) ≤ 1
       → WellFormed s at tank heaters step (plainReading (heaterRecordAt s at (byteAt s (at + 22))) (at + 31))
   step-record : Stands s at 3 (stepSizeAt s at heaters) → tank ≡ true → heaters ≤ maxHeaters

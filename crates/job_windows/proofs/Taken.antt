@@ -2,7 +2,7 @@
 use Prim.Native.Nat.{ℕ, _+_, _*_, _-_, _≤_, _<_}
 use native.Mathlib.Omega.{arith}
 use mathlib.Core.Bool.{Bool, false}
-use mathlib.Core.List.{List, _++_}
+use mathlib.Core.List.{List}
 use mathlib.Core.Path.{_≡_, refl, sym, ap, subst, _∙_}
 use lib.Dec.{ltb}
 use lib.ListN.{length, take, drop}
@@ -15,10 +15,10 @@ use Rattle.job_model.specs.Windows.{movedUp, runReady, WindowHanded}
 use Rattle.job_model.proofs.Ends.{Within}
 use Rattle.job_model.proofs.WindowLoop.{run-within}
 use Rattle.input_window.specs.declared.Next.{Next}
-use Rattle.input_window.specs.Window.{maxWindow, moved, nextWindow, Left}
+use Rattle.input_window.specs.Window.{maxWindow, nextWindow, Left}
 use Rattle.input_window.proofs.Moved.{moved-length, moved-first}
 use Rattle.job_windows.specs.Kinds.{linesOf}
-use Rattle.job_windows.specs.Input.{Open, Taken, WindowTaken}
+use Rattle.job_windows.specs.Input.{Open, WindowTaken}
 use Rattle.job_windows.proofs.Told.{lines-move}
 
 module _ (history : Bool) (held count : ℕ) (xs filled : List ℕ) (j : Job) (open-at : Open xs held j) (keeps : take held filled ≡ take held xs) (size : length filled ≡ length xs) (fits : held + count ≤ length xs) where

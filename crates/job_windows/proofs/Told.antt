@@ -1,5 +1,5 @@
 -- Proves that a job told window by window, in either kind of lines, is the whole job (01, Job), and what the loop over a window's records cites of its lines.
-use Prim.Native.Nat.{ℕ, _≤_, _<_}
+use Prim.Native.Nat.{ℕ, _<_}
 use native.Mathlib.Omega.{arith}
 use mathlib.Core.Bool.{Bool, true, false}
 use mathlib.Core.List.{List}

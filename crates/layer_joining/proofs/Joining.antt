@@ -1,6 +1,5 @@
 -- Proves that what the code keeps of a round still follows it after a pair that joins (01, Mix), whatever way the group's heat at its new temperature was worked.
 use mathlib.Core.Path.{_≡_, refl, sym, ap, _∙_, subst}
-use mathlib.Core.Logic.{_⊎_, inl, inr}
 use mathlib.Core.Bool.{true, not}
 use mathlib.Core.List.{List}
 use Prim.Native.Nat.{ℕ, _+_, _-_, _≤_, _<_}
@@ -37,11 +36,6 @@ pub met-parts : (met s a own : Float) → s ≡ a ⊕ own → T (finite (met ⊕
 met-parts met s a own e h =
     let parts = sum-parts-finite met s h in
     (parts .0, sum-parts-finite a own (rw (← e) (parts .1)) .1)
-
--- a known sum, by what it is
-pub known-as : {S : Type 0} (q x known y : Accumulator) → known ≡ y → (q ≡ x) ⊎ ((q ≡ known) × S) → (q ≡ x) ⊎ ((q ≡ y) × S)
-known-as q x known y e (inl h) = inl h
-known-as q x known y e (inr h) = inr (h .0 ∙ e, h .1)
 
 -- where `each` is a number, it is the volume of each layer from bottom to below end
 abbrev pub EachIs : List Float → ℕ → ℕ → Float → Type 0

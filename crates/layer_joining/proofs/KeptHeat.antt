@@ -15,13 +15,12 @@ use lib.Ieee.Scale.{finite}
 use denote.Floats.{is-true}
 use Rattle.numeric.specs.Double.{_⊛_}
 use Rattle.numeric.specs.Zeros.{SameValue}
-use Rattle.numeric.specs.Iterate.{iterate}
-use Rattle.numeric.specs.Sum2.{nothing-added, accumulate, addAt}
+use Rattle.numeric.specs.Sum2.{nothing-added, accumulate}
 use Rattle.numeric.specs.declared.sum2.Accumulator.{Accumulator}
 use Rattle.numeric.proofs.Finite.{product-parts-finite}
 use Rattle.numeric.proofs.SameValue.{equal-same, same-back, same-through, same-finite, same-left, same-right, same-factor}
 use Rattle.numeric.proofs.Members.{Stable, stable-start, stable-terms, same-term, same-members, term-finite, members-finite}
-use Rattle.group_sums.specs.Sums.{heatSum}
+use Rattle.group_sums.specs.Sums.{heatSum, EvenSum, OneMore}
 use Rattle.layer_joining.specs.Running.{AsDefined}
 use Rattle.layer_joining.specs.declared.RunningGroup.{RunningGroup}
 use Rattle.layer_joining.proofs.Members.{heat-more}
@@ -51,12 +50,12 @@ module _ (n : ℕ) (vol first : List Float) (i : ℕ) (temps : List Float) (r : 
   pub each-more : T (fits binary64 v) → eq v (r .each) ≡ true → (k : ℕ) → r .bottom ≤ k → k < i + 2 → SameValue (getD vol k nan) (r .each)
   each-more vf ve = grown (λ (k : ℕ). SameValue (getD vol k nan) (r .each)) (d .each (equal-number v (r .each) ve)) (rw (← at) (v-each vf ve))
 
-  module _ (x : Float) (q : Accumulator) (own : Float) (known : (q ≡ accumulate (r .heat) (v ⊛ r .temp)) ⊎ ((q ≡ accumulate (r .heat) own) × SameValue own (v ⊛ r .temp))) (f : T (finite (q .s))) where
+  module _ (x : Float) (q : Accumulator) (own : Float) (known : OneMore (r .heat) (v ⊛ r .temp) own (accumulate (r .heat) own) q) (f : T (finite (q .s))) where
     old-stable : Stable (r .heat)
     old-stable = rw (d .heat) (stable-terms (λ (k : ℕ). getD vol k nan ⊛ r .temp) (i + 1 - r .bottom) (r .bottom) nothing-added stable-start (λ j w. mul-fits binary64 (getD vol j nan) (r .temp)))
 
     gone-on : q ≡ accumulate (r .heat) (v ⊛ r .temp)
-    gone-on = ⊎-elim (λ e. e) (λ e. e .0 ∙ same-term (r .heat) own (v ⊛ r .temp) old-stable (e .1)) known
+    gone-on = ⊎-elim (λ e. e) (λ e. e .is-known ∙ same-term (r .heat) own (v ⊛ r .temp) old-stable (e .same-value)) known
 
     product-finite : T (finite (v ⊛ r .temp))
     product-finite = term-finite (r .heat) (v ⊛ r .temp) (subst (λ (a : Accumulator). T (finite (a .s))) gone-on f) .1
@@ -85,7 +84,7 @@ module _ (n : ℕ) (vol first : List Float) (i : ℕ) (temps : List Float) (r : 
         (rw (← at) (same-right v (r .temp) x (product-parts-finite v (r .temp) product-finite .0) same)))
 
   -- the volumes are equal, and the heat is a sum of one product
-  pub equal-heat : T (fits binary64 v) → eq v (r .each) ≡ true → (x : Float) (q : Accumulator) → (q ≡ heatSum vol x (r .bottom) (i + 2)) ⊎ (finite (q .s) ≡ true → q ≡ iterate (addAt (λ (k : ℕ). v ⊛ x)) (i + 2 - r .bottom) (r .bottom) nothing-added) → T (finite (q .s)) → q ≡ heatSum vol x (r .bottom) (i + 2)
+  pub equal-heat : T (fits binary64 v) → eq v (r .each) ≡ true → (x : Float) (q : Accumulator) → EvenSum vol x (v ⊛ x) (r .bottom) (i + 2) q → T (finite (q .s)) → q ≡ heatSum vol x (r .bottom) (i + 2)
   equal-heat vf ve x q (inl e) f = e
   equal-heat vf ve x q (inr e) f =
       let is = e (is-true (finite (q .s)) f) in

@@ -21,9 +21,14 @@ use Rattle.mixing.specs.Rearrange.{rises}
 use Rattle.group_sums.specs.Sums.{volumeSum, heatSum}
 use Rattle.layer_joining.specs.declared.RunningGroup.{RunningGroup}
 
+-- r is the volume of each layer, and v equals it
+pub record StaysEach (each v r : Float) : Type 0 where
+  pub is-each : r ≡ each
+  pub even : eq v each ≡ true
+
 -- the volume of each layer, with one of volume v more: not-a-number where that differs
 abbrev pub EachWith : Float → Float → Float → Type 0
-EachWith each v r = ((r ≡ each) × (eq v each ≡ true)) ⊎ (r ≡ zero-f ⊘ zero-f)
+EachWith each v r = StaysEach each v r ⊎ (r ≡ zero-f ⊘ zero-f)
 
 -- volume × temperature is finite in each of n layers
 abbrev pub HeatFinite : ℕ → List Float → List Float → Type 0
@@ -83,37 +88,30 @@ module _ (n : ℕ) (vol first : List Float) (i : ℕ) (temps : List Float) (r : 
 -- ---- a layer joins the group r: the layer i + 1, of volume v and temperature `next`
 
 -- it stands above the group
-abbrev pub Enters : List Float → ℕ → Float → RunningGroup → Type 0
-Enters vol i v r = (r .bottom ≤ i) × (i + 1 < maxLayers) × (v ≡ getD vol (i + 1) nan)
+pub record Enters (vol : List Float) (i : ℕ) (v : Float) (r : RunningGroup) : Type 0 where
+  pub group-below : r .bottom ≤ i
+  pub has-place : i + 1 < maxLayers
+  pub own-volume : v ≡ getD vol (i + 1) nan
 
 -- and `volume` is the group's with it
-abbrev pub EntersAny : List Float → ℕ → Float → RunningGroup → Accumulator → Type 0
-EntersAny vol i v r volume =
-    (r .bottom ≤ i) × (i + 1 < maxLayers) × (v ≡ getD vol (i + 1) nan)
-    × (volume ≡ accumulate (r .volume) (v ⊛ one-f))
+pub record EntersAny (vol : List Float) (i : ℕ) (v : Float) (r : RunningGroup) (volume : Accumulator) : Type 0 where
+  pub enters : Enters vol i v r
+  pub volume-is : volume ≡ accumulate (r .volume) (v ⊛ one-f)
 
 -- and each layer of the group has the volume v, and `heat` is the group's with the layer's own, where that is finite
-abbrev pub EntersEven : List Float → ℕ → Float → Float → RunningGroup → Accumulator → Accumulator → Type 0
-EntersEven vol i v next r heat volume =
-    (r .bottom ≤ i) × (i + 1 < maxLayers) × (v ≡ getD vol (i + 1) nan)
-    × (volume ≡ accumulate (r .volume) (v ⊛ one-f))
-    × (eq v (r .each) ≡ true)
-    × (heat .s ≡ r .heat .s ⊕ (v ⊛ next))
-    × (finite (heat .s) ≡ true → heat ≡ accumulate (r .heat) (v ⊛ next))
+pub record EntersEven (vol : List Float) (i : ℕ) (v next : Float) (r : RunningGroup) (heat volume : Accumulator) : Type 0 where
+  pub any : EntersAny vol i v r volume
+  pub each-is : eq v (r .each) ≡ true
+  pub heat-s : heat .s ≡ r .heat .s ⊕ (v ⊛ next)
+  pub heat-is : finite (heat .s) ≡ true → heat ≡ accumulate (r .heat) (v ⊛ next)
 
 -- and `guess` is the heat's total
-abbrev pub EntersGuessed : List Float → ℕ → Float → Float → RunningGroup → Accumulator → Accumulator → Float → Type 0
-EntersGuessed vol i v next r heat volume guess =
-    (r .bottom ≤ i) × (i + 1 < maxLayers) × (v ≡ getD vol (i + 1) nan)
-    × (volume ≡ accumulate (r .volume) (v ⊛ one-f))
-    × (eq v (r .each) ≡ true)
-    × (heat .s ≡ r .heat .s ⊕ (v ⊛ next))
-    × (finite (heat .s) ≡ true → heat ≡ accumulate (r .heat) (v ⊛ next))
-    × (finite (heat .s) ≡ true → total heat ≡ guess)
+pub record EntersGuessed (vol : List Float) (i : ℕ) (v next : Float) (r : RunningGroup) (heat volume : Accumulator) (guess : Float) : Type 0 where
+  pub even : EntersEven vol i v next r heat volume
+  pub guessed : finite (heat .s) ≡ true → total heat ≡ guess
 
 -- q is the group with the layer: it starts where r does, and follows the round as r did, whatever the layers are, if the pair joins
-abbrev pub StillFollows : List Float → ℕ → Float → RunningGroup → RunningGroup → Type 0
-StillFollows vol i next r q =
-    (q .bottom ≡ r .bottom)
-    × ((n : ℕ) (first temps : List Float) → i + 1 < n → next ≡ getD temps (i + 1) nan → SaysJoins (r .temp) next true
-    → Follows n vol first i temps r → Follows n vol first (i + 1) temps q)
+pub record StillFollows (vol : List Float) (i : ℕ) (next : Float) (r q : RunningGroup) : Type 0 where
+  pub bottom-is : q .bottom ≡ r .bottom
+  pub follows : (n : ℕ) (first temps : List Float) → i + 1 < n → next ≡ getD temps (i + 1) nan → SaysJoins (r .temp) next true
+      → Follows n vol first i temps r → Follows n vol first (i + 1) temps q

@@ -69,13 +69,18 @@ abbrev pub answerOf : Mixing → MixAnswer
 answerOf (sorted after k) = Mixed k
 answerOf unsorted = Refused 9
 
--- n layers of these volumes were mixed in place: the answer is the mixing's, and `after` is what it leaves of `temps`
+-- the answer is that of the mixing x, and `after` is what x leaves of the temperatures it was lent
+pub record LeftBy (x : Mixing) (temps : List Float) (answer : MixAnswer) (after : List Float) : Type 0 where
+  pub answers : answer ≡ answerOf x
+  pub leaves : after ≡ tempsOf temps x
+
+-- n layers of these volumes were mixed in place
 abbrev pub Rearranged : ℕ → List Float → List Float → MixAnswer → List Float → Type 0
-Rearranged n vol temps answer after = (answer ≡ answerOf (rearrange n vol temps)) × (after ≡ tempsOf temps (rearrange n vol temps))
+Rearranged n vol temps answer after = LeftBy (rearrange n vol temps) temps answer after
 
 -- the same of a call's layers, which all have the one volume
 abbrev pub MixWorked : List Float → Float → MixAnswer → List Float → Type 0
-MixWorked layers volume answer after = (answer ≡ answerOf (mixing layers volume)) × (after ≡ tempsOf layers (mixing layers volume))
+MixWorked layers volume answer after = LeftBy (mixing layers volume) layers answer after
 
 abbrev pub mixAnswer : List Float → Float → MixAnswer
 mixAnswer layers volume = cond (eqb (mixRefusal layers volume) 0) (answerOf (mixing layers volume)) (Refused (mixRefusal layers volume))

@@ -13,7 +13,7 @@ use lib.Ieee.Fits.{up-pos, down-pos, neg-fits}
 use lib.Ieee.Scale.{finite}
 use Rattle.numeric.specs.Double.{_⊖_, _⊛_, zero-f, relative-tolerance, narrow-tolerance, wide-tolerance}
 use Rattle.numeric.specs.Compare.{maxOf2}
-use Rattle.numeric.specs.Close.{magnitude, infinite, within, close}
+use Rattle.numeric.specs.Close.{magnitude, infinite, within, close, ClosePair}
 use Rattle.numeric.proofs.Zeros.{isMinusZero, add-not-minus}
 
 -- ---- a rounded fraction with the sign of minus: it is not above zero, and its opposite is the fraction with the sign of plus
@@ -161,21 +161,21 @@ module _ (m : ℕ) (e : ℤ) (t : Float) where
       go (inf s) f = absurd f
       go (fin s n g) f = refl
 
-  infinite-pair : T (finite t) → (Pair (fin false m e) (inf false) t ≡ close (fin false m e) (inf false) t) × (Pair (fin false m e) (inf false) t ≡ close (inf false) (fin false m e) t)
+  infinite-pair : T (finite t) → ClosePair (fin false m e) (inf false) t (Pair (fin false m e) (inf false) t)
   unfolding close eq infinite
-  infinite-pair f = rw (infinite-distance f, and-right (le (inf false ⊖ fin false m e) (relative-tolerance ⊛ inf false)) .1) (refl, refl)
+  infinite-pair f = rw (infinite-distance f, and-right (le (inf false ⊖ fin false m e) (relative-tolerance ⊛ inf false)) .1) (record { lower-first = refl; upper-first = refl })
 
   module _ (n : ℕ) (g : ℤ) (h : m * up e * down g < n * up g * down e) where
-    finite-pair : T (fits binary64 (fin false m e)) → T (fits binary64 (fin false n g)) → (Pair (fin false m e) (fin false n g) t ≡ close (fin false m e) (fin false n g) t) × (Pair (fin false m e) (fin false n g) t ≡ close (fin false n g) (fin false m e) t)
+    finite-pair : T (fits binary64 (fin false m e)) → T (fits binary64 (fin false n g)) → ClosePair (fin false m e) (fin false n g) t (Pair (fin false m e) (fin false n g) t)
     unfolding close eq infinite
     finite-pair p q =
         let far : eqb (m * up e * down g) (n * up g * down e) ≡ false = ne-eqb (m * up e * down g) (n * up g * down e) (λ z. omega arith) in
         let back : eqb (n * up g * down e) (m * up e * down g) ≡ false = ne-eqb (n * up g * down e) (m * up e * down g) (λ z. omega arith) in
-        rw (far, back, within-plus m e n g h t p q, within-back m e n g h t, and-right (le (fin false n g ⊖ fin false m e) (relative-tolerance ⊛ fin false n g)) .0)
-        (or-swap (le (fin false n g ⊖ fin false m e) t) (le (fin false n g ⊖ fin false m e) (relative-tolerance ⊛ fin false n g)), refl)
+        let a = le (fin false n g ⊖ fin false m e) (relative-tolerance ⊛ fin false n g) in
+        rw (and-right a .0) (record { lower-first = rw (far, within-plus m e n g h t p q) (or-swap (le (fin false n g ⊖ fin false m e) t) a); upper-first = rw (back, within-back m e n g h t) refl })
 
 -- the law
-pub close-pair : (lower upper t : Float) → T (fits binary64 lower) → T (fits binary64 upper) → T (finite t) → lt zero-f lower ≡ true → lt lower upper ≡ true → (Pair lower upper t ≡ close lower upper t) × (Pair lower upper t ≡ close upper lower t)
+pub close-pair : (lower upper t : Float) → T (fits binary64 lower) → T (fits binary64 upper) → T (finite t) → lt zero-f lower ≡ true → lt lower upper ≡ true → ClosePair lower upper t (Pair lower upper t)
 unfolding lt ofBits
 close-pair nan upper t p q f z h = absurd (true≢false (sym z))
 close-pair (inf true) upper t p q f z h = absurd (true≢false (sym z))

@@ -1,5 +1,6 @@
 -- States Close, narrow and wide (01, Arithmetic underneath).
 use mathlib.Core.Bool.{Bool, true, false, cond, not, _&&_, _||_}
+use mathlib.Core.Path.{_≡_}
 use lib.Ieee.{Float, nan, inf, fin, lt, le, eq, neg}
 use Rattle.numeric.specs.Double.{_⊖_, _⊛_, zero-f, relative-tolerance, narrow-tolerance, wide-tolerance}
 use Rattle.numeric.specs.Compare.{maxOf2}
@@ -20,6 +21,11 @@ within a b e =
 -- Close(a, b, e): equal; or neither infinite and within e
 unfoldable pub close : Float → Float → Float → Bool
 close a b e = eq a b || (not (infinite a) && not (infinite b) && within a b e)
+
+-- r says whether two numbers are close, whichever of them is first
+pub record ClosePair (lower upper e : Float) (r : Bool) : Type 0 where
+  pub lower-first : r ≡ close lower upper e
+  pub upper-first : r ≡ close upper lower e
 
 -- 01's narrow-close and wide-close
 unfoldable pub narrowClose : Float → Float → Bool

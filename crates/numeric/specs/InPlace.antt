@@ -19,7 +19,8 @@ module _ (f : ℕ → Float → Float) (n : ℕ) (xs₀ : List Float) where
   pub updating-start : Updating f n xs₀ 0 xs₀
   updating-start = record { rest = rest-start (updateAt f) n xs₀; untouched = λ j l. refl }
 
-  pub updating-next : (i : ℕ) (xs : List Float) (x : Float) → i < n → Updating f n xs₀ i xs → x ≡ f i (getD xs₀ i nan) → Updating f n xs₀ (i + 1) (set xs i x)
+  pub updating-next : (i : ℕ) (xs : List Float) (x : Float) → i < n → Updating f n xs₀ i xs → x ≡ f i (getD xs₀ i nan)
+      → Updating f n xs₀ (i + 1) (set xs i x)
   updating-next i xs x h u e = record {
     rest = rw (e, ← u .untouched i (omega arith)) (rest-next (updateAt f) n xs₀ i xs h (u .rest));
     untouched = λ j l. getD-set-other xs i j x nan (λ same. omega arith) ∙ u .untouched j (omega arith);

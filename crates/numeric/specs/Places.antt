@@ -30,8 +30,8 @@ pub keeps-set : (n : ℕ) (xs : List Float) (k : ℕ) (x : Float) → k < n → 
 keeps-set n xs k x h = record { long = length-set xs k x; past = λ j d l. getD-set-other xs k j x d (λ e. omega arith) }
 
 -- what each pass below n keeps of the places past n, the whole keeps
-pub iterate-keeps : (f : ℕ → List Float → List Float) (n : ℕ) → ((i : ℕ) (xs : List Float) → i < n → Keeps n xs (f i xs)) → (k i : ℕ) (xs : List Float)
-    → i + k ≤ n → Keeps n xs (iterate f k i xs)
+pub iterate-keeps : (f : ℕ → List Float → List Float) (n : ℕ) → ((i : ℕ) (xs : List Float) → i < n → Keeps n xs (f i xs))
+    → (k i : ℕ) (xs : List Float) → i + k ≤ n → Keeps n xs (iterate f k i xs)
 iterate-keeps f n h k i xs l =
     iterate-keep f (λ (ys : List Float). Keeps n xs ys) n (λ j ys m p. keeps-trans n xs ys (f j ys) p (h j ys m)) k i xs l (keeps-self n xs)
 

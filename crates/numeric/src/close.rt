@@ -4,7 +4,7 @@ ghost use mathlib.Core.Bool.{true, false};
 ghost use lib.Ieee.{lt, le};
 ghost use lib.Ieee.Scale.{finite};
 ghost use Rattle.numeric.specs.Double.{zero-f};
-ghost use Rattle.numeric.specs.Close.{magnitude, infinite, within, close, narrowClose, wideClose};
+ghost use Rattle.numeric.specs.Close.{magnitude, infinite, within, close, ClosePair, narrowClose, wideClose};
 
 // The narrow tolerance, 2^-52.
 pub const NARROW: f64 = 2.220446049250313e-16;
@@ -80,7 +80,7 @@ pub fn is_wide_close(a: f64, b: f64) -> bool
 // Close of two numbers above zero, the lower one first. They are their own magnitudes, and the upper one is the larger; its distance from the lower one is
 // infinite where it is.
 fn is_close_pair(lower: f64, upper: f64, e: f64) -> bool
-    ensures { λ r. ⌜ (finite e ≡ true → lt zero-f lower ≡ true → lt lower upper ≡ true → (r ≡ close lower upper e) × (r ≡ close upper lower e)) ⌝ }
+    ensures { λ r. ⌜ (finite e ≡ true → lt zero-f lower ≡ true → lt lower upper ≡ true → ClosePair lower upper e r) ⌝ }
 {
     let distance = upper - lower;
     if distance <= e {

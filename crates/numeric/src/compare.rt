@@ -1,10 +1,10 @@
 // `min_of_2` and `max_of_2` of compare_floats.rs, and whether a double is finite.
 ghost use mathlib.Core.Path.{_≡_};
-ghost use mathlib.Core.Bool.{true, _&&_};
-ghost use lib.Ieee.{lt, eq};
+ghost use mathlib.Core.Bool.{_&&_};
+ghost use lib.Ieee.{lt};
 ghost use lib.Ieee.Scale.{finite};
 ghost use Rattle.numeric.specs.Double.{zero-f};
-ghost use Rattle.numeric.specs.Compare.{minOf2, maxOf2};
+ghost use Rattle.numeric.specs.Compare.{minOf2, maxOf2, SaysSame};
 
 pub fn min_of_2(first: f64, second: f64) -> f64
     ensures { λ r. ⌜ r ≡ minOf2 first second ⌝ }
@@ -38,7 +38,7 @@ pub fn is_finite_above_zero(x: f64) -> bool
 
 // Equal doubles are the same where they are above zero.
 pub fn is_same(x: f64, y: f64) -> bool
-    ensures { λ r. ⌜ (r ≡ eq x y) × (r ≡ true → lt zero-f y ≡ true → x ≡ y) ⌝ }
+    ensures { λ r. ⌜ SaysSame x y r ⌝ }
 {
     x == y
 }

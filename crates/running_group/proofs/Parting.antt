@@ -21,7 +21,7 @@ use Rattle.numeric.proofs.Finite.{sum-parts-finite}
 use Rattle.mixing.specs.Round.{Walk, joins, pair, oneRound}
 use Rattle.mixing.specs.Rearrange.{rises, isSorted}
 use Rattle.layer_joining.specs.Running.{HeatFinite, SaysJoins, layerBelow, AsDefined, Follows}
-use Rattle.running_group.specs.Rounds.{Started, Ended}
+use Rattle.running_group.specs.Rounds.{Started, Ended, RoundWorked}
 use Rattle.layer_joining.specs.declared.RunningGroup.{RunningGroup}
 use Rattle.layer_joining.proofs.Fill.{fill-outside, fill-own}
 use Rattle.layer_joining.proofs.Members.{layer-there}
@@ -70,13 +70,13 @@ module _ (n : ℕ) (vol first : List Float) (i : ℕ) (temps : List Float) (r : 
   -- above the group nothing is written
   above : (j : ℕ) → i < j → getD w j nan ≡ getD temps j nan
   above j l =
-      ⊎-elim (λ e. ap (λ (z : List Float). getD z j nan) (ended .0 (omega arith)))
-      (λ u. ap (λ (z : List Float). getD z j nan) (ended .1 (omega arith)) ∙ fill-outside (r .bottom) (i + 1) (r .temp) temps j (omega arith) (inr (omega arith))) (eq-or-lt-of-le low)
+      ⊎-elim (λ e. ap (λ (z : List Float). getD z j nan) (ended .one-layer (omega arith)))
+      (λ u. ap (λ (z : List Float). getD z j nan) (ended .more-layers (omega arith)) ∙ fill-outside (r .bottom) (i + 1) (r .temp) temps j (omega arith) (inr (omega arith))) (eq-or-lt-of-le low)
 
   is-written : AsDefined n vol first i temps r → w ≡ written i temps r
   is-written d =
-      ⊎-elim (λ e. ended .0 (omega arith) ∙ rw (d .one-layer e, e) (sym (fill-own i temps)))
-      (λ u. ended .1 (omega arith)) (eq-or-lt-of-le low)
+      ⊎-elim (λ e. ended .one-layer (omega arith) ∙ rw (d .one-layer e, e) (sym (fill-own i temps)))
+      (λ u. ended .more-layers (omega arith)) (eq-or-lt-of-le low)
 
   -- whether the layers are in order with the group's temperature written
   in-order : AsDefined n vol first i temps r → cond (r .sorted) (le (r .below) (r .temp)) false ≡ holds (rises w) (i + 1 - 1) 0
@@ -106,13 +106,13 @@ module _ (n : ℕ) (vol first : List Float) (i : ℕ) (temps : List Float) (r : 
         (in-order d);
   }
 
-  last-part : i + 1 ≡ n → T (finite (r .met)) → Follows n vol first i temps r → (w ≡ oneRound n vol first) × (cond (r .sorted) (le (r .below) (r .temp)) false ≡ isSorted n w)
+  last-part : i + 1 ≡ n → T (finite (r .met)) → Follows n vol first i temps r → RoundWorked n vol first w (cond (r .sorted) (le (r .below) (r .temp)) false)
   unfolding oneRound isSorted
   last-part e m f =
       let d = f .as-defined m (rw (← e) (f .passed m)) in
       let last : n - 1 ≡ i = omega arith in
-      (is-written d ∙ sym (ap (λ (k : ℕ). iterate (pair n vol) k 0 (record { temps = first; bottom = 0 }) .temps) last ∙ ap (λ (z : Walk). z .temps) (d .walk)), in-order d ∙ rw e refl)
+      record { leaves = is-written d ∙ sym (ap (λ (k : ℕ). iterate (pair n vol) k 0 (record { temps = first; bottom = 0 }) .temps) last ∙ ap (λ (z : Walk). z .temps) (d .walk)); tells = in-order d ∙ rw e refl }
 
 -- ---- the last group has ended
-pub follows-end : (n : ℕ) (vol first : List Float) (i : ℕ) (temps : List Float) (r : RunningGroup) (w : List Float) → r .bottom ≤ i → i + 1 ≡ n → Ended (r .bottom) n (r .temp) temps w → T (finite (r .met)) → Follows n vol first i temps r → (w ≡ oneRound n vol first) × (cond (r .sorted) (le (r .below) (r .temp)) false ≡ isSorted n w)
+pub follows-end : (n : ℕ) (vol first : List Float) (i : ℕ) (temps : List Float) (r : RunningGroup) (w : List Float) → r .bottom ≤ i → i + 1 ≡ n → Ended (r .bottom) n (r .temp) temps w → T (finite (r .met)) → Follows n vol first i temps r → RoundWorked n vol first w (cond (r .sorted) (le (r .below) (r .temp)) false)
 follows-end n vol first i temps r w low e ended m f = last-part n vol first i temps r low (omega arith) w (rw e ended) e m f

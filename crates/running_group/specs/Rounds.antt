@@ -28,15 +28,20 @@ pub record Started (i : ℕ) (temp v below : Float) (sorted : Bool) (met : Float
   pub volume-is : T (finite (v ⊛ temp)) → q .volume ≡ accumulate nothing-added (v ⊛ one-f)
 
 -- what an array holds when a group from bottom to below end has ended in it: one layer alone has its temperature already
-abbrev pub Ended : ℕ → ℕ → Float → List Float → List Float → Type 0
-Ended bottom end x old new = (bottom + 1 ≡ end → new ≡ old) × (bottom + 1 < end → new ≡ fill bottom end x old)
+pub record Ended (bottom end : ℕ) (x : Float) (old new : List Float) : Type 0 where
+  pub one-layer : bottom + 1 ≡ end → new ≡ old
+  pub more-layers : bottom + 1 < end → new ≡ fill bottom end x old
 
 -- after the pair of the layers i and i + 1, which found `old` and left `new`, q follows the round as r did before it
-abbrev pub PairFollows : List Float → ℕ → List Float → List Float → RunningGroup → RunningGroup → Type 0
-PairFollows vol i old new r q =
-    (q .bottom ≤ i + 1)
-    × ((n : ℕ) (first : List Float) → i + 1 < n → Follows n vol first i old r → Follows n vol first (i + 1) new q)
+pub record PairFollows (vol : List Float) (i : ℕ) (old new : List Float) (r q : RunningGroup) : Type 0 where
+  pub group-below : q .bottom ≤ i + 1
+  pub follows : (n : ℕ) (first : List Float) → i + 1 < n → Follows n vol first i old r → Follows n vol first (i + 1) new q
 
--- a round that met finite products alone leaves what the definition says, and tells whether that is in order
+-- a round that found `old` left `new`, as the definition says, and `sorted` tells whether that is in order
+pub record RoundWorked (n : ℕ) (vol old new : List Float) (sorted : Bool) : Type 0 where
+  pub leaves : new ≡ oneRound n vol old
+  pub tells : sorted ≡ isSorted n new
+
+-- the same of a round that met finite products alone
 abbrev pub RoundLeaves : ℕ → List Float → List Float → List Float → RoundAnswer → Type 0
-RoundLeaves n vol old new r = (r .finite ≡ true → (new ≡ oneRound n vol old) × (r .sorted ≡ isSorted n new))
+RoundLeaves n vol old new r = (r .finite ≡ true → RoundWorked n vol old new (r .sorted))

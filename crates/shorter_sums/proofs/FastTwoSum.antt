@@ -19,6 +19,7 @@ use Rattle.numeric.specs.declared.sum2.Accumulator.{Accumulator}
 use Rattle.numeric.proofs.Difference.{minus-self}
 use Rattle.numeric.proofs.Zeros.{isMinusZero, zero-plus, add-not-minus}
 use Rattle.numeric.proofs.Finite.{sum-parts-finite}
+use Rattle.shorter_sums.specs.Shorter.{SmallerAdded}
 use Rattle.shorter_sums.proofs.Sterbenz.{sum-back, sum-above}
 use Rattle.numeric.proofs.Members.{one-term}
 
@@ -66,14 +67,14 @@ equals-one b p = (
       (cross→le b b B B (le-refl (num b * den b)), λ i. rw (one-term b p f, nothing-plus b p (positive-some b B)) refl),
 )
 
-pub equals-more : (b : Float) (k : ℕ) (a q : Accumulator) → T (fits binary64 b) → Equals b k a → q .s ≡ a .s ⊕ b → (lt zero-f b ≡ true → le b (a .s) ≡ true → finite (q .s) ≡ true → q ≡ accumulate a b) → Equals b (k + 1) q
-equals-more b k a q r e s m = (
-  rw s (add-fits binary64 (a .s) b),
+pub equals-more : (b : Float) (k : ℕ) (a q : Accumulator) → T (fits binary64 b) → Equals b k a → SmallerAdded a b q → Equals b (k + 1) q
+equals-more b k a q r e m = (
+  rw (m .s-is) (add-fits binary64 (a .s) b),
   λ h f.
-      let parts = sum-parts-finite (a .s) b (rw (← s) f) in
+      let parts = sum-parts-finite (a .s) b (rw (← m .s-is) f) in
       let old = e .1 h (parts .0) in (
-        rw s (sum-above binary64 (a .s) b (above-zero b h (parts .1)) (e .0) r (old .0) (parts .0)),
-        λ i. m h (is-true (le b (a .s)) (old .0)) (is-true (finite (q .s)) f) ∙ rw (iterate-more (addAt (λ (j : ℕ). b)) k i nothing-added, ← old .1 i) refl,
+        rw (m .s-is) (sum-above binary64 (a .s) b (above-zero b h (parts .1)) (e .0) r (old .0) (parts .0)),
+        λ i. m .accumulates h (is-true (le b (a .s)) (old .0)) (is-true (finite (q .s)) f) ∙ rw (iterate-more (addAt (λ (j : ℕ). b)) k i nothing-added, ← old .1 i) refl,
       ),
 )
 
@@ -82,4 +83,4 @@ abbrev pub fast : Accumulator → Float → Accumulator
 fast a b = record { s = a .s ⊕ b; c = a .c ⊕ (b ⊖ (a .s ⊕ b ⊖ a .s)) }
 
 pub equals-fast : (b : Float) (k : ℕ) (a : Accumulator) → T (fits binary64 b) → Equals b k a → Equals b (k + 1) (fast a b)
-equals-fast b k a r e = equals-more b k a (fast a b) r e refl (λ h l f. fast-two-sum a b (e .0) r h l (passes _ f))
+equals-fast b k a r e = equals-more b k a (fast a b) r e (record { s-is = refl; accumulates = λ h l f. fast-two-sum a b (e .0) r h l (passes _ f) })

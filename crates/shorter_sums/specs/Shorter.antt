@@ -9,10 +9,10 @@ use Rattle.numeric.specs.Iterate.{iterate}
 use Rattle.numeric.specs.Sum2.{nothing-added, accumulate, addAt}
 use Rattle.numeric.specs.declared.sum2.Accumulator.{Accumulator}
 
--- r is the sum a with the term b, where b is above zero and at most the sum
-abbrev pub SmallerAdded : Accumulator → Float → Accumulator → Type 0
-SmallerAdded a b r =
-    (r .s ≡ a .s ⊕ b) × (lt zero-f b ≡ true → le b (a .s) ≡ true → finite (r .s) ≡ true → r ≡ accumulate a b)
+-- the term b was added to the sum a: r is the sum with it, where b is above zero and at most a's s, and r's s is finite
+pub record SmallerAdded (a : Accumulator) (b : Float) (r : Accumulator) : Type 0 where
+  pub s-is : r .s ≡ a .s ⊕ b
+  pub accumulates : lt zero-f b ≡ true → le b (a .s) ≡ true → finite (r .s) ≡ true → r ≡ accumulate a b
 
 -- r is the sum of the one term b
 abbrev pub OneAdded : Float → Accumulator → Type 0

@@ -10,7 +10,7 @@ use Rattle.group_sums.proofs.add_known.Tie as tie
 returns : tie.Need-returns
 returns c =
     let a = c .before in
-    inr (refl, equal-same (a .args .c) (a .args .b) (passes _ (a .good .1 .1 .0 .1)) (passes _ (a .good .1 .0 .1)) (c .if1 .taken))
+    inr (record { is-known = refl; same-value = equal-same (a .args .c) (a .args .b) (passes _ (a .good .1 .1 .0 .1)) (passes _ (a .good .1 .0 .1)) (c .if1 .taken) })
 
 returns-2 : tie.Need-returns-2
 returns-2 c = inl (c .add-term .ensures)

@@ -6,7 +6,7 @@ use Rattle.group_sums.proofs.is_total.Statement.{statement}
 use Rattle.group_sums.proofs.is_total.Tie as tie
 
 returns : tie.Need-returns
-returns c = λ e. sym (c .before .total-of .ensures) ∙ c .is-same .ensures .1 e (c .before .before .if1 .taken)
+returns c = λ e. sym (c .before .total-of .ensures) ∙ c .is-same .ensures .same e (c .before .before .if1 .taken)
 
 returns-2 : tie.Need-returns-2
 returns-2 c = λ e. absurd (true≢false (sym e))

@@ -5,7 +5,7 @@ use Rattle.layer_joining.proofs.each_with.Statement.{statement}
 use Rattle.layer_joining.proofs.each_with.Tie as tie
 
 returns : tie.Need-returns
-returns c = inl (refl, c .if1 .taken)
+returns c = inl (record { is-each = refl; even = c .if1 .taken })
 
 returns-2 : tie.Need-returns-2
 returns-2 c = inr refl

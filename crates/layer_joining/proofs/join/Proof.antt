@@ -8,8 +8,7 @@ join-even-plain-requires c κs =
     let test = c .before .before .before .before .before .before in
     let after = test .before .before .before .before .before in
     let sum = after .before .add-smaller .ensures in
-    let pre = after .before .before .pre in
-    (pre .0, pre .1, pre .2, after .add-term .ensures, test .before .before .before .if1 .taken, sum .0, sum .1 (test .before .before .if2 .taken) (test .if3 .taken), λ f. c .before .is-total .ensures (c .if5 .taken))
+    record { even = record { any = record { enters = after .before .before .pre; volume-is = after .add-term .ensures }; each-is = test .before .before .before .if1 .taken; heat-s = sum .s-is; heat-is = sum .accumulates (test .before .before .if2 .taken) (test .if3 .taken) }; guessed = λ f. c .before .is-total .ensures (c .if5 .taken) }
 
 returns : tie.Need-returns
 returns c = c .join-even-plain .ensures
@@ -19,16 +18,13 @@ join-even-requires c κs =
     let test = c .before .before in
     let after = test .before .before .before .before .before in
     let sum = after .before .add-smaller .ensures in
-    let pre = after .before .before .pre in
-    (pre .0, pre .1, pre .2, after .add-term .ensures, test .before .before .before .if1 .taken, sum .0, sum .1 (test .before .before .if2 .taken) (test .if3 .taken))
+    record { any = record { enters = after .before .before .pre; volume-is = after .add-term .ensures }; each-is = test .before .before .before .if1 .taken; heat-s = sum .s-is; heat-is = sum .accumulates (test .before .before .if2 .taken) (test .if3 .taken) }
 
 returns-2 : tie.Need-returns-2
 returns-2 c = c .join-even .ensures
 
 join-any-requires : tie.Need-join-any-requires
-join-any-requires c κs =
-    let pre = c .before .before .before .before .pre in
-    (pre .0, pre .1, pre .2, c .before .before .add-term .ensures)
+join-any-requires c κs = record { enters = c .before .before .before .before .pre; volume-is = c .before .before .add-term .ensures }
 
 returns-3 : tie.Need-returns-3
 returns-3 c = c .join-any .ensures

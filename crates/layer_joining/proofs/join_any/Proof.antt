@@ -1,25 +1,23 @@
 -- `running::join_any` meets its contract (01, Mix). The heat is that of the group's layers at the new temperature: worked anew, or gone on with from what was kept,
 -- where the temperature is what it was.
 use mathlib.Core.Path.{_≡_, ap}
-use mathlib.Core.Logic.{_⊎_, inl, inr}
+use mathlib.Core.Logic.{inl, inr}
 use mathlib.Core.Bool.{true, not}
 use mathlib.Core.List.{List}
 use Prim.Native.Nat.{ℕ, _+_, _<_}
 use lib.Dec.{T}
-use lib.ListN.{getD}
-use lib.Ieee.{Float, nan, binary64, div, ofBits, fits, eq, isNan}
+use lib.Ieee.{Float, binary64, div, ofBits, fits, eq, isNan}
 use lib.Ieee.Fits.{div-fits}
 use lib.Ieee.Scale.{finite}
 use denote.Floats.{passes}
 use Rattle.numeric.specs.Double.{_⊕_, _⊛_, _⊘_, zero-f}
-use Rattle.numeric.specs.Zeros.{SameValue}
 use Rattle.numeric.specs.Sum2.{accumulate}
 use Rattle.numeric.specs.declared.sum2.Accumulator.{Accumulator}
-use Rattle.group_sums.specs.Sums.{heatSum}
-use Rattle.layer_joining.specs.Running.{SaysJoins, joinedGroup, AsDefined, Follows}
+use Rattle.group_sums.specs.Sums.{heatSum, OneMore}
+use Rattle.layer_joining.specs.Running.{EachWith, joinedGroup, AsDefined, StillFollows}
 use Rattle.layer_joining.specs.declared.RunningGroup.{RunningGroup}
 use Rattle.layer_joining.proofs.KeptHeat.{each-more, level-heat}
-use Rattle.layer_joining.proofs.Joining.{quotient-of, term-sum, met-parts, known-as, EachIs, follows-join}
+use Rattle.layer_joining.proofs.Joining.{quotient-of, term-sum, met-parts, EachIs, follows-join}
 use borrow.Author.Needs.{needs}
 use Rattle.layer_joining.proofs.join_any.Statement.{statement}
 use Rattle.layer_joining.proofs.join_any.Tie as tie
@@ -67,25 +65,26 @@ module _ (c : tie.After-total-of2) where
       → q ≡ joinedGroup r temp heat volume each (r .met ⊕ sum .s)
       → ((n : ℕ) (first temps : List Float) → i + 1 < n → AsDefined n vol first i temps r → T (finite (heat .s)) → heat ≡ heatSum vol temp (r .bottom) (i + 2))
       → ((n : ℕ) (first temps : List Float) → i + 1 < n → AsDefined n vol first i temps r → EachIs vol (r .bottom) (i + 2) each)
-      → (q .bottom ≡ r .bottom) × ((n : ℕ) (first temps : List Float) → i + 1 < n → next ≡ getD temps (i + 1) nan → SaysJoins (r .temp) next true → Follows n vol first i temps r → Follows n vol first (i + 1) temps q)
+      → StillFollows vol i next r q
   follows q heat each e h m =
-      let pre = start .pre in
-      let temp-is = quotient-of _ _ _ _ _ (c .before .total-of .ensures) (c .total-of2 .ensures) sum-is in (
-        ap (λ (g : RunningGroup). g .bottom) e,
-        λ n first temps b above j f.
-            rw e (follows-join n vol first i temps r (pre .0) b v next (pre .2) above volume (start .pre .3) temp heat each (r .met ⊕ sum .s) (met-parts (r .met) (sum .s) (r .heat .s) (v ⊛ next) (term-sum (r .heat) sum (v ⊛ next) sum-is)) (λ w. temp-is) j (λ d w. h n first temps b d) (m n first temps b) f),
-      )
+      let pre = start .pre .enters in
+      let temp-is = quotient-of _ _ _ _ _ (c .before .total-of .ensures) (c .total-of2 .ensures) sum-is in
+      record {
+        bottom-is = ap (λ (g : RunningGroup). g .bottom) e;
+        follows = λ n first temps b above j f.
+            rw e (follows-join n vol first i temps r (pre .group-below) b v next (pre .own-volume) above volume (start .pre .volume-is) temp heat each (r .met ⊕ sum .s) (met-parts (r .met) (sum .s) (r .heat .s) (v ⊛ next) (term-sum (r .heat) sum (v ⊛ next) sum-is)) (λ w. temp-is) j (λ d w. h n first temps b d) (m n first temps b) f);
+      }
 
   -- the temperature is what it was
-  level : (q : Accumulator) → (q ≡ accumulate (r .heat) (v ⊛ r .temp)) ⊎ ((q ≡ sum) × SameValue (v ⊛ next) (v ⊛ r .temp)) → eq temp (r .temp) ≡ true → (n : ℕ) (first temps : List Float) → i + 1 < n → AsDefined n vol first i temps r → T (finite (q .s)) → q ≡ heatSum vol temp (r .bottom) (i + 2)
+  level : (q : Accumulator) → OneMore (r .heat) (v ⊛ r .temp) (v ⊛ next) sum q → eq temp (r .temp) ≡ true → (n : ℕ) (first temps : List Float) → i + 1 < n → AsDefined n vol first i temps r → T (finite (q .s)) → q ≡ heatSum vol temp (r .bottom) (i + 2)
   level q known e n first temps b d f =
-      let pre = start .pre in
-      level-heat n vol first i temps r (pre .0) b d v (pre .2) temp q (v ⊛ next) (known-as q _ sum _ sum-is known) f (div-fits binary64 _ _) e
+      let pre = start .pre .enters in
+      level-heat n vol first i temps r (pre .group-below) b d v (pre .own-volume) temp q (v ⊛ next) (rw (← sum-is) known) f (div-fits binary64 _ _) e
 
-  each-is : (each : Float) → ((each ≡ r .each) × (eq v (r .each) ≡ true)) ⊎ (each ≡ zero-f ⊘ zero-f) → (n : ℕ) (first temps : List Float) → i + 1 < n → AsDefined n vol first i temps r → EachIs vol (r .bottom) (i + 2) each
+  each-is : (each : Float) → EachWith (r .each) v each → (n : ℕ) (first temps : List Float) → i + 1 < n → AsDefined n vol first i temps r → EachIs vol (r .bottom) (i + 2) each
   each-is each (inl e) n first temps b d =
-      let pre = start .pre in
-      rw (e .0) (d .each-fits, λ m. each-more n vol first i temps r (pre .0) b d v (pre .2) v-fits (e .1))
+      let pre = start .pre .enters in
+      rw (e .is-each) (d .each-fits, λ m. each-more n vol first i temps r (pre .group-below) b d v (pre .own-volume) v-fits (e .even))
   each-is each (inr e) n first temps b d = rw e (div-fits binary64 zero-f zero-f, λ m. absurd (differ-nan m))
 
 returns : tie.Need-returns

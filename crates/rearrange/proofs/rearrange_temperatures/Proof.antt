@@ -33,8 +33,8 @@ returns-2 c =
     let test = ran .before .before in
     let at = test .before .loop in
     let round = ran .try-round .ensures (not-false _ (c .before .if1 .left)) in
-    let e = at .inv .2 ∙ (rounds-next _ (at .k) _ _ _ _ true (test .loop-test .taken) (round .0) (sym (round .1) ∙ c .if2 .taken) ∙ rounds-sorted _ _ _ _ _) in
-    (sym (ap answerOf e), sym (ap (tempsOf _) e))
+    let e = at .inv .2 ∙ (rounds-next _ (at .k) _ _ _ _ true (test .loop-test .taken) (round .leaves) (sym (round .tells) ∙ c .if2 .taken) ∙ rounds-sorted _ _ _ _ _) in
+    record { answers = sym (ap answerOf e); leaves = sym (ap (tempsOf _) e) }
 
 loop-again : tie.Need-loop-again Inv-loop μ-loop
 loop-again c =
@@ -42,13 +42,13 @@ loop-again c =
     let test = ran .before .before in
     let at = test .before .loop in
     let round = ran .try-round .ensures (not-false _ (c .before .if1 .left)) in
-    (omega arith, at .inv .1, at .inv .2 ∙ rounds-next _ (at .k) _ _ _ _ false (test .loop-test .taken) (round .0) (sym (round .1) ∙ c .if2 .left))
+    (omega arith, at .inv .1, at .inv .2 ∙ rounds-next _ (at .k) _ _ _ _ false (test .loop-test .taken) (round .leaves) (sym (round .tells) ∙ c .if2 .left))
 
 returns-3 : tie.Need-returns-3 Inv-loop μ-loop
 returns-3 c =
     let at = c .before .loop in
     let e = at .inv .2 ∙ rounds-none _ _ _ _ _ (omega arith) in
-    (sym (ap answerOf e), at .inv .1 ∙ sym (ap (tempsOf _) e))
+    record { answers = sym (ap answerOf e); leaves = at .inv .1 ∙ sym (ap (tempsOf _) e) }
 
 pub rearrange-temperatures-spec : {M : Type 1} → statement M
 rearrange-temperatures-spec =

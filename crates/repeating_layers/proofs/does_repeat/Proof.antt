@@ -25,7 +25,7 @@ returns-5 c =
       some = sym (some .before .is-no-volume .ensures) ∙ some .if1 .left;
       enough = not-false _ (c .before .before .before .if2 .left);
       above = not-false _ (c .before .before .if3 .left);
-      again = c .is-same .ensures .1 e (not-false _ (c .before .if4 .left));
+      again = c .is-same .ensures .same e (not-false _ (c .before .if4 .left));
     }
 
 pub does-repeat-spec : {M : Type 1} → statement M

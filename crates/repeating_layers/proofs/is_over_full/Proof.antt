@@ -21,7 +21,7 @@ returns-4 c =
     let second = c .before .before in
     let first = second .before .before .before .before in
     let start = first .before .before in
-    λ e. over-full _ _ _ (start .args .kept) (start .pre .1 (not-false _ (first .if1 .left))) (second .before .before .before .if2 .left) (second .before .is-same .ensures .1 (not-false _ (second .if3 .left))) (c .is-same2 .ensures .1 e)
+    λ e. over-full _ _ _ (start .args .kept) (start .pre .1 (not-false _ (first .if1 .left))) (second .before .before .before .if2 .left) (second .before .is-same .ensures .same (not-false _ (second .if3 .left))) (c .is-same2 .ensures .same e)
 
 pub is-over-full-spec : {M : Type 1} → statement M
 is-over-full-spec =

@@ -8,7 +8,7 @@ use Rattle.shorter_sums.proofs.add_smaller.Tie as tie
 returns : tie.Need-returns
 returns c =
     let start = c .before .before .before in
-    (refl, λ h l f. fast-two-sum (start .args .a) (start .args .b) (passes _ (start .good .0 .1 .1 .0 .1)) (passes _ (start .good .1 .0 .1)) h l (passes _ f))
+    record { s-is = refl; accumulates = λ h l f. fast-two-sum (start .args .a) (start .args .b) (passes _ (start .good .0 .1 .1 .0 .1)) (passes _ (start .good .1 .0 .1)) h l (passes _ f) }
 
 pub add-smaller-spec : {M : Type 1} → statement M
 add-smaller-spec = tie.close (tie.spec returns)

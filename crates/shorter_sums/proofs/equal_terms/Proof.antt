@@ -33,7 +33,7 @@ loop-again : tie.Need-loop-again Inv-loop μ-loop
 loop-again c =
     let at = c .before .before .loop in
     let start = c .before .before .before .before .before in
-    (omega arith, equals-more (start .args .b) (at .k) (at .a) (c .add-smaller .result) (passes _ (start .good .0 .1)) (at .inv .1) (c .add-smaller .ensures .0) (c .add-smaller .ensures .1))
+    (omega arith, equals-more (start .args .b) (at .k) (at .a) (c .add-smaller .result) (passes _ (start .good .0 .1)) (at .inv .1) (c .add-smaller .ensures))
 
 returns-3 : tie.Need-returns-3 Inv-loop μ-loop
 returns-3 c = λ h f i.

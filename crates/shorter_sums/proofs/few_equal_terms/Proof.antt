@@ -21,7 +21,7 @@ loop-again : tie.Need-loop-again Inv-loop μ-loop
 loop-again c =
     let at = c .before .before .loop in
     let start = c .before .before .before in
-    (omega arith, equals-more (start .args .b) (at .k) (at .a) (c .add-smaller .result) (passes _ (start .good .0 .1)) (at .inv .1) (c .add-smaller .ensures .0) (c .add-smaller .ensures .1))
+    (omega arith, equals-more (start .args .b) (at .k) (at .a) (c .add-smaller .result) (passes _ (start .good .0 .1)) (at .inv .1) (c .add-smaller .ensures))
 
 returns : tie.Need-returns Inv-loop μ-loop
 returns c = λ h f i.

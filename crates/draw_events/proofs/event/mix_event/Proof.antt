@@ -14,8 +14,8 @@ returns c =
     let at = mixed .before .before in
     let a = at .before .args in
     rw (at .if1 .taken) record {
-      draws = c .number-of .ensures ∙ (rw (mixed .rearrange-temperatures .ensures .0) (mixing-number (rearrange (a .n) (a .vol .now) (a .temps .now))));
-      leaves = mixed .rearrange-temperatures .ensures .1;
+      draws = c .number-of .ensures ∙ (rw (mixed .rearrange-temperatures .ensures .answers) (mixing-number (rearrange (a .n) (a .vol .now) (a .temps .now))));
+      leaves = mixed .rearrange-temperatures .ensures .leaves;
     }
 
 returns-2 : tie.Need-returns-2

@@ -15,7 +15,7 @@ returns c =
     let mixed = input .before .before .before .before in
     let heat = mixed .before .before in
     let done = c .calc-temps-after-thermal-losses .ensures in
-    rw (final-sorted _ _ _ _ _ _ _ _ (heat .calc-temps-with-energy-input .ensures) _ _ _ (mixed .rearrange-temperatures .ensures .0) (mixed .rearrange-temperatures .ensures .1) (input .before .before .mixing .given .1))
+    rw (final-sorted _ _ _ _ _ _ _ _ (heat .calc-temps-with-energy-input .ensures) _ _ _ (mixed .rearrange-temperatures .ensures) (input .before .before .mixing .given .1))
     (record {
       answers = rw (done .adjusts, done .lost .loses, input .energy-input .ensures);
       leaves = done .lost .leaves;
@@ -27,7 +27,7 @@ unfolding afterMixing ofBits div
 returns-2 c =
     let mixed = c .before .before .before in
     let heat = mixed .before .before in
-    let answer = mixed .rearrange-temperatures .ensures .0 in
+    let answer = mixed .rearrange-temperatures .ensures .answers in
     let refused = c .before .mixing2 .given .1 in
     rw (final-unsorted _ _ _ _ _ _ _ _ (heat .calc-temps-with-energy-input .ensures) _ _ answer refused)
     (record { answers = ap (λ (number : ℕ). record { number = number; rounds = 0; adjusted = nan; losses = nan }) (refused-nine _ _ _ _ _ answer refused); leaves = refl; charges = refl })

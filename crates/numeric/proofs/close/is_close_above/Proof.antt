@@ -4,7 +4,7 @@ use Rattle.numeric.proofs.close.is_close_above.Statement.{statement}
 use Rattle.numeric.proofs.close.is_close_above.Tie as tie
 
 returns : tie.Need-returns
-returns c = λ f h. c .is-close-pair .ensures f (c .before .if1 .taken) h .1
+returns c = λ f h. c .is-close-pair .ensures f (c .before .if1 .taken) h .upper-first
 
 returns-2 : tie.Need-returns-2
 returns-2 c = λ f h. c .is-close .ensures

@@ -4,7 +4,7 @@ use Rattle.numeric.proofs.close.is_close_below.Statement.{statement}
 use Rattle.numeric.proofs.close.is_close_below.Tie as tie
 
 returns : tie.Need-returns
-returns c = λ f h. c .is-close-pair .ensures f (c .before .if1 .taken) h .0
+returns c = λ f h. c .is-close-pair .ensures f (c .before .if1 .taken) h .lower-first
 
 returns-2 : tie.Need-returns-2
 returns-2 c = λ f h. c .is-close .ensures

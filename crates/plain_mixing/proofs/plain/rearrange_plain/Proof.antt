@@ -28,7 +28,7 @@ returns c =
     let at = test .before .loop in
     let s = sym (c .before .is-sorted .ensures) ∙ c .if1 .taken in
     let e = at .inv .1 ∙ (rounds-next _ (at .k) _ _ _ _ true (test .loop-test .taken) (ran .mix-round .ensures) s ∙ rounds-sorted _ _ _ _ _) in
-    (sym (ap answerOf e), sym (ap (tempsOf _) e))
+    record { answers = sym (ap answerOf e); leaves = sym (ap (tempsOf _) e) }
 
 loop-again : tie.Need-loop-again Inv-loop μ-loop
 loop-again c =
@@ -42,7 +42,7 @@ returns-2 : tie.Need-returns-2 Inv-loop μ-loop
 returns-2 c =
     let at = c .before .loop in
     let e = at .inv .1 ∙ rounds-none _ _ _ _ _ (omega arith) in
-    (sym (ap answerOf e), sym (ap (tempsOf _) e))
+    record { answers = sym (ap answerOf e); leaves = sym (ap (tempsOf _) e) }
 
 pub rearrange-plain-spec : {M : Type 1} → statement M
 rearrange-plain-spec =

@@ -35,7 +35,7 @@ returns-4 c =
     let second = third .before .before in
     let start = second .before .before .before in
     let e : mixRefusal (start .args .layers .now) (start .args .layer-volume) ≡ 0 = rw (ne-eqb _ _ (second .before .if1 .left), le-ltb _ _ (second .if2 .left), ← third .before .is-finite-above-zero .ensures, not-false (third .before .is-finite-above-zero .result) (third .if3 .left)) in
-    mix-answered _ _ _ _ (rw e (c .before .before .mix-array .ensures .0)) (rw e (c .before .before .mix-array .ensures .1))
+    mix-answered _ _ _ _ (rw e (c .before .before .mix-array .ensures .answers)) (rw e (c .before .before .mix-array .ensures .leaves))
 
 pub mix-spec : {M : Type 1} → statement M
 mix-spec =

@@ -32,7 +32,7 @@ worked : (c : tie.After-rearrange-temperatures) → (c .rearrange-temperatures .
 worked c =
     let e = c .rearrange-temperatures .ensures in
     let filled = c .before .before .before .copy-in .ensures in
-    (rw filled at (e .0) ∙ array-answer (volumes c) (layers c) (zeros c) (size c), rw filled at (e .1))
+    (rw filled at (e .answers) ∙ array-answer (volumes c) (layers c) (zeros c) (size c), rw filled at (e .leaves))
 
 copy-out-requires : tie.Need-copy-out-requires
 copy-out-requires c κs =
@@ -42,15 +42,16 @@ copy-out-requires c κs =
 returns : tie.Need-returns
 returns c =
     let told = c .before .before .before .before .before in
-    let ran = told .before .before in (
-      worked ran .0,
-      c .before .before .copy-out .ensures ∙ rw (worked ran .1) (array-accepted (volumes ran) (layers ran) (zeros ran) (size ran) _ (sym (worked ran .0) ∙ told .enum-told .given .1)),
-    )
+    let ran = told .before .before in
+    record {
+      answers = worked ran .0;
+      leaves = c .before .before .copy-out .ensures ∙ rw (worked ran .1) (array-accepted (volumes ran) (layers ran) (zeros ran) (size ran) _ (sym (worked ran .0) ∙ told .enum-told .given .1));
+    }
 
 returns-2 : tie.Need-returns-2
 returns-2 c =
     let ran = c .before .before in
-    (worked ran .0, array-refused (volumes ran) (layers ran) (zeros ran) (size ran) _ (sym (worked ran .0) ∙ c .enum-told2 .given .1))
+    record { answers = worked ran .0; leaves = array-refused (volumes ran) (layers ran) (zeros ran) (size ran) _ (sym (worked ran .0) ∙ c .enum-told2 .given .1) }
 
 pub mix-array-spec : {M : Type 1} → statement M
 mix-array-spec =

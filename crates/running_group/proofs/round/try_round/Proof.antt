@@ -30,13 +30,13 @@ loop-holds c =
 loop-again : tie.Need-loop-again Inv-loop μ-loop
 loop-again c =
     let at = c .before .before .before .loop in
-    (omega arith, c .run-pair .ensures .0, c .run-pair .ensures .1 _ _ (omega arith) (at .inv .2))
+    (omega arith, c .run-pair .ensures .group-below, c .run-pair .ensures .follows _ _ (omega arith) (at .inv .2))
 
 returns : tie.Need-returns Inv-loop μ-loop
 returns c = λ finite.
     let at = c .before .before .before .before .before .loop in
-    let ends = follows-end _ _ _ (at .i) _ (at .r) _ (at .inv .1) (omega arith) (c .before .before .end-group .ensures) (passes _ (sym (c .before .is-finite .ensures) ∙ finite)) (at .inv .2) in
-    (ends .0, c .is-still-sorted .ensures ∙ ends .1)
+    rw (c .is-still-sorted .ensures)
+    (follows-end _ _ _ (at .i) _ (at .r) _ (at .inv .1) (omega arith) (c .before .before .end-group .ensures) (passes _ (sym (c .before .is-finite .ensures) ∙ finite)) (at .inv .2))
 
 pub try-round-spec : {M : Type 1} → statement M
 try-round-spec =
