@@ -50,6 +50,10 @@ narrow-tolerance = dbl 0x3cb0_0000_0000_0000
 abbrev pub wide-tolerance : Float
 wide-tolerance = dbl 0x3ddb_7cdf_d9d7_bdbb
 
+-- the part of the heaters' losses that is recoverable: 0.75
+abbrev pub three-quarters : Float
+three-quarters = dbl 0x3fe8_0000_0000_0000
+
 -- each of them is the double nearest to the number that 01 writes
 pub relative-tolerance-nearest : relative-tolerance ≡ round binary64 false 1 (10 ^ 9)
 unfolding ofBits round
@@ -62,3 +66,7 @@ narrow-tolerance-nearest = refl
 pub wide-tolerance-nearest : wide-tolerance ≡ round binary64 false 1 (10 ^ 10)
 unfolding ofBits round
 wide-tolerance-nearest = refl
+
+pub three-quarters-nearest : three-quarters ≡ round binary64 false 3 4
+unfolding ofBits round
+three-quarters-nearest = refl

@@ -7,7 +7,7 @@ use native.Mathlib.Omega.{arith}
 use lib.ListN.{getD, length, replicate}
 use lib.Ieee.{Float, nan}
 use lib.Ieee.Scale.{finite}
-use Rattle.numeric.specs.Double.{dbl, _⊛_, _⊘_, zero-f}
+use Rattle.numeric.specs.Double.{_⊛_, _⊘_, zero-f, three-quarters}
 use Rattle.numeric.specs.Close.{wideClose}
 use Rattle.mixing.specs.Limits.{maxLayers}
 use Rattle.cylinder.specs.declared.Cylinder.{Cylinder}
@@ -170,7 +170,7 @@ module _ (f : Fixed) (st : State) (a : Step) where
 
         module _ (finished : h .number ≡ 0) where
           abbrev isFinite : Bool
-          isFinite = finite average && finite (s .losses ⊛ dbl 0x3fe8_0000_0000_0000)
+          isFinite = finite average && finite (s .losses ⊛ three-quarters)
 
           -- what the step came to
           abbrev outcome : Outcome
@@ -186,7 +186,7 @@ module _ (f : Fixed) (st : State) (a : Step) where
 
           -- what the code answers
           abbrev pub workAnswer : WorkAnswer
-          workAnswer = record { number = 0; turns = h .worked; totals = d .totals; average = average; recoverable = s .losses ⊛ dbl 0x3fe8_0000_0000_0000 }
+          workAnswer = record { number = 0; turns = h .worked; totals = d .totals; average = average; recoverable = s .losses ⊛ three-quarters }
 
           pub step-accepted : isFinite ≡ true → x' .lines ≡ s .lines → StepWorked f st a workAnswer (s .temps) (s .flags) x x'
           unfolding endBy recoverable

@@ -10,7 +10,7 @@ use Prim.Native.Nat.{ℕ, _+_, _-_, _<_, _≤_}
 use lib.Dec.{T}
 use lib.ListN.{length, getD, set, replicate}
 use lib.Ieee.{Float, nan, lt, le}
-use Rattle.numeric.specs.Double.{dbl, _⊕_, _⊖_, _⊛_, _⊘_, zero-f}
+use Rattle.numeric.specs.Double.{_⊕_, _⊖_, _⊛_, _⊘_, zero-f, three-quarters}
 use Rattle.numeric.specs.Compare.{minOf2, maxOf2}
 use Rattle.numeric.specs.Close.{wideClose}
 use Rattle.numeric.specs.Tabulate.{tabulate}
@@ -188,7 +188,7 @@ pub record TurnsOpen (st : State) (d : DrawOff) (s : Heating) : Type 0 where
 
 -- the heaters' losses × 0.75
 abbrev pub recoverableOf : Heating → Float
-recoverableOf s = s .losses ⊛ dbl 0x3fe8_0000_0000_0000
+recoverableOf s = s .losses ⊛ three-quarters
 
 -- 10. Not finite: average or recoverable at the end
 abbrev pub EndNotFinite : Float → Heating → Type 0

@@ -6,7 +6,7 @@ use mathlib.Core.List.{List, []}
 use lib.ListN.{getD, set, replicate}
 use lib.Ieee.{Float, nan}
 use lib.Ieee.Scale.{finite}
-use Rattle.numeric.specs.Double.{dbl, _⊕_, _⊛_, _⊘_, zero-f}
+use Rattle.numeric.specs.Double.{_⊕_, _⊛_, _⊘_, zero-f, three-quarters}
 use Rattle.numeric.specs.Close.{wideClose}
 use Rattle.numeric.specs.Tabulate.{tabulate}
 use Rattle.mixing.specs.Limits.{maxLayers}
@@ -149,7 +149,7 @@ stop n = record { events = []; turns = []; end = refused n }
 
 -- recoverable = the heaters' losses added plainly × 0.75
 unfoldable pub recoverable : Heating → Float
-recoverable s = s .losses ⊛ dbl 0x3fe8_0000_0000_0000
+recoverable s = s .losses ⊛ three-quarters
 
 -- average or recoverable at the end
 unfoldable pub close : DrawOff → Float → End Heating → End Outcome
