@@ -1,2 +1,3 @@
 -- The lemmas that the proofs of a step's code share.
 pub mod StepWorked
+pub mod StepParts
