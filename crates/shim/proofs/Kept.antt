@@ -4,24 +4,30 @@ use Prim.Native.Nat.{ℕ, zero, suc, _<_}
 use native.Mathlib.Omega.{arith}
 use mathlib.Core.Path.{_≡_, refl, sym, ap, _∙_, subst}
 use mathlib.Core.Bool.{Bool, false}
-use mathlib.Core.List.{List}
+use mathlib.Core.List.{List, [], _∷_}
 use lib.Arith.{lt-of-le-ne}
-use lib.ListN.{length}
+use lib.ListN.{getD, length}
 use lib.Ieee.{Float, nan}
 use Rattle.numeric.specs.Tabulate.{tabulate}
 use Rattle.tank_model.specs.declared.Step.{Step}
-use Rattle.tank_arrays.specs.Arrays.{fittedIn, heatersOf, linesIn, HoldsLines}
+use Rattle.tank_model.specs.declared.StepNumbers.{StepNumbers}
+use Rattle.tank_arrays.specs.Arrays.{fittedIn, heatersOf, linesIn, HoldsLines, fixedFor, stepFor}
 use Rattle.tank_arrays.proofs.LentArrays.{places}
+use Rattle.heater_turns.specs.Notes.{notesIn}
 use Rattle.step_work.specs.declared.work.WorkAnswer.{WorkAnswer}
+use Rattle.step_work.specs.Lent.{StepWorked, StepArrays, stepArrays, notesAt, StepWorkedIn}
 use Rattle.storage_tank.specs.declared.StorageTank.{StorageTank}
 use Rattle.storage_tank.specs.declared.Report.{Report}
 use Rattle.storage_tank.specs.declared.Stepped.{Stepped}
+use Rattle.storage_tank.specs.Tank.{fixedIn, stateIn}
 use Rattle.storage_tank.specs.Calls.{stepped}
 use Rattle.storage_tank.specs.Answers.{acceptedStep}
+use Rattle.storage_tank.proofs.Answers.{step-refuses, step-accepts}
 use Rattle.storage_tank.proofs.Calls.{refused-step}
-use Rattle.lent_tank.specs.Flags.{bytesOf}
-use Rattle.lent_tank.specs.Tanks.{tankIn, TankHeld}
+use Rattle.lent_tank.specs.Flags.{flagsIn, bytesOf}
+use Rattle.lent_tank.specs.Tanks.{cylinderIn, tankIn, TankHeld}
 use Rattle.lent_tank.specs.Reports.{reportIn, totalsOf, figuresOf, lineFlagsOf, roundsOf, ReportHeld}
+use Rattle.lent_tank.specs.Steps.{stepIn}
 use Rattle.shim.specs.Answers.{bytesLeft, StepLeft}
 
 -- ---- arrays of the lent lengths hold the tank and the report that are read from them
@@ -139,3 +145,23 @@ module _ (counts : List ℕ) (numbers temps heaters : List Float) (thermostats f
           report-held = report-held (left .report) totals' figures' reported rounds' d refl h;
           line-flags-left = g ∙ ap bytesOf (sym (places false 8 reported (h .flags-long)));
         })
+
+  -- the step in place: its work, in bools read from the bytes that are lent, and what the call writes
+  module _ (feed : Float) (asked : List ℕ) (volumes : List Float) (present : List ℕ) (points : List Float) where
+    abbrev lentStep : Step
+    lentStep = stepIn feed asked volumes present points
+
+    abbrev numbersLent : StepNumbers
+    numbersLent = record { cylinder = cylinderIn counts numbers; heaters = getD counts 1 0; feed = feed; events = getD asked 0 0; entries = getD asked 1 0 }
+
+    module _ (own there on : List Bool) (own-are : own ≡ flagsIn thermostats) (there-are : there ≡ flagsIn present) (on-are : on ≡ flagsIn flags)
+        (xs : List Float) (gs : List Bool) (ks : List ℕ) (course : List Float) (ran : List Bool) (w : WorkAnswer) (after : StepArrays)
+        (worked : StepWorkedIn (fixedFor numbersLent heaters own) (stepFor numbersLent volumes there points) (stepArrays temps on xs gs ks course ran) w after) where
+      of-lent : StepWorked (fixedIn lentTank) (stateIn lentTank) lentStep w (after .temps) (after .on) (notesIn xs gs ks course ran) (notesAt after)
+      of-lent = rw (own-are, there-are, on-are) at (worked .works)
+
+      pub refused-in-place : (w .number ≡ 0 → ⊥) → StepLeft (stepped lentTank lentReport lentStep) thermostats flags lineFlags (w .number) counts numbers temps heaters thermostats flags totals figures lineFlags rounds
+      refused-in-place n = refused-left lentStep (w .number) (ap (λ (s : Stepped). s .number) (step-refuses lentTank lentReport lentStep w _ _ _ _ of-lent n)) n
+
+      pub accepted-in-place : w .number ≡ 0 → (totals' : List Float) → totals' ≡ (w .totals .energy ∷ w .totals .used ∷ w .average ∷ w .recoverable ∷ []) → (flags' lineFlags' : List ℕ) → flags' ≡ bytesOf (after .on) → lineFlags' ≡ bytesOf (after .flags) → StepLeft (stepped lentTank lentReport lentStep) thermostats flags lineFlags 0 counts numbers (after .temps) heaters thermostats flags' totals' (after .figures) lineFlags' (after .rounds)
+      accepted-in-place z totals' d flags' lineFlags' f g = worked-left lentStep w (after .temps) (after .on) totals' (after .figures) (after .flags) flags' lineFlags' (after .rounds) (step-accepts lentTank lentReport lentStep w _ _ _ _ of-lent z) d (worked .holds z) f g
