@@ -7,6 +7,7 @@ import os
 import pty
 import re
 import select
+import signal
 import struct
 import subprocess
 import sys
@@ -87,6 +88,11 @@ class Folder(unittest.TestCase):
         held = tempfile.TemporaryDirectory()
         self.addCleanup(held.cleanup)
         self.folder = held.name
+
+    def hear_signals(self):
+        """As at a keyboard: in the background, or under nohup, a shell has programs started deaf to these."""
+        for number, handler in ((signal.SIGINT, signal.default_int_handler), (signal.SIGHUP, signal.SIG_DFL)):
+            self.addCleanup(signal.signal, number, signal.signal(number, handler))
 
     def path(self, name):
         return os.path.join(self.folder, name)

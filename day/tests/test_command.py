@@ -36,6 +36,10 @@ class Slow(Folder):
 
 
 class Interrupted(Slow):
+    def setUp(self):
+        super().setUp()
+        self.hear_signals()
+
     def interrupted_by(self, number, target):
         programs = os.path.join(self.folder, "bin")
         if not os.path.isdir(programs):

@@ -183,6 +183,10 @@ class FirstMinute(Sample):
 
 
 class Interrupted(Sample):
+    def setUp(self):
+        super().setUp()
+        self.hear_signals()
+
     def interrupted_by(self, number):
         """rt starts another program, as it does; the answer is what was said, when both have ended."""
         self.rt(before="trap '' INT; sleep 300 & echo $! >begun; wait")
@@ -215,7 +219,6 @@ class Interrupted(Sample):
         self.rt()
         self.assertEqual(self.sample()[0], 0)
 
-
     def test_while_rt_is_being_started(self):
         started, popen = [], subprocess.Popen
 
@@ -224,7 +227,6 @@ class Interrupted(Sample):
             os.kill(os.getpid(), signal.SIGINT)
             return started[0]
 
-        self.addCleanup(signal.signal, signal.SIGINT, signal.signal(signal.SIGINT, signal.default_int_handler))
         with mock.patch("subprocess.Popen", start), self.assertRaises(KeyboardInterrupt):
             build.ask("rt", None, self.path("log"))
         for cleanup in (started[0].stdout.close, started[0].kill):
