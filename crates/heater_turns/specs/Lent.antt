@@ -83,6 +83,7 @@ turnArrays temps charged on figures flags rounds course ran = record {
   ran = ran;
 }
 
+-- what they hold: how far heating has come, and what the turns noted; and that the lines have their places
 abbrev pub heatingAt : TurnArrays → TurnsAnswer → Heating
 heatingAt x s = heatingIn (x .temps) (x .charged) (x .on) s (x .figures) (x .flags) (x .rounds)
 
@@ -135,7 +136,7 @@ abbrev pub TurnsWorked : Fixed → List Setting → List ℕ → Heating → Not
 TurnsWorked f settings hs s x r s' x' =
     turnsBy 0 x (run (workTurn f (pointsIn settings)) hs s) ≡ record { end = endBy (r .number) s'; worked = r .worked; notes = x' }
 
--- and are worked in these arrays
+-- the same, worked in these arrays
 pub record TurnsWorkedIn (f : Fixed) (settings : List Setting) (hs : List ℕ) (before : TurnArrays) (r : TurnsAnswer) (after : TurnArrays) : Type 0 where
   pub works : TurnsWorked f settings hs (heatingAt before noTurns) (notesAt before) r (heatingAt after r) (notesAt after)
   pub holds : LinesHeld after

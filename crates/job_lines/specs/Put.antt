@@ -23,7 +23,7 @@ pub record Put (before : List ℕ) (at : ℕ) (text after : List ℕ) (next : �
   pub stands : after ≡ sets before at text
   pub ends : next ≡ at + length text
 
--- and the text has at most `most` bytes
+-- a text is put so, and has at most `most` bytes
 pub record PutWithin (before : List ℕ) (at : ℕ) (text : List ℕ) (most : ℕ) (after : List ℕ) (next : ℕ) : Type 0 where
   pub puts : Put before at text after next
   pub within : next ≤ at + most

@@ -62,7 +62,7 @@ pub record WholeRecords (f : Job → RecordRun) (ready : ℕ → Bool) (records 
   pub takes : length (runReady f ready records j .text) ≡ taken
   pub stops : Stops ready (runReady f ready records j)
 
--- and those of the next record not to their end
+-- the lines of so many records were taken, and those of the next one not to their end
 pub record CutRecords (f : Job → RecordRun) (ready : ℕ → Bool) (records : ℕ) (j : Job) (taken : ℕ) : Type 0 where
   pub before : length (runReady f ready records j .text) ≤ taken
   pub within : taken < length (runReady f ready (suc records) j .text)

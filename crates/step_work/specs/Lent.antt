@@ -60,6 +60,7 @@ stepArrays temps on figures flags rounds course ran = record {
   ran = ran;
 }
 
+-- what its turns noted there
 abbrev pub notesAt : StepArrays → Notes
 notesAt x = notesIn (x .figures) (x .flags) (x .rounds) (x .course) (x .ran)
 
