@@ -10,18 +10,17 @@ use lib.Ieee.Scale.{finite}
 use Rattle.numeric.specs.Double.{_⊛_, _⊘_, zero-f, three-quarters}
 use Rattle.numeric.specs.Close.{wideClose}
 use Rattle.mixing.specs.Limits.{maxLayers}
-use Rattle.cylinder.specs.Layers.{layerVolumes}
 use Rattle.draw_events.specs.declared.Totals.{Totals}
 use Rattle.draw_events.specs.declared.event.EventAnswer.{EventAnswer}
 use Rattle.draw_events.specs.Lent.{maxEvents, drawingOf}
-use Rattle.draw_events.specs.Event.{noTotals, firstVolumes, drawAll}
+use Rattle.draw_events.specs.Event.{noTotals, drawAll}
 use Rattle.working_order.specs.Order.{maxHeaters}
 use Rattle.tank_model.specs.declared.Step.{Step}
 use Rattle.tank_model.specs.declared.StepNumbers.{StepNumbers}
 use Rattle.tank_model.specs.Fixed.{Fixed, State}
 use Rattle.tank_model.specs.Order.{workingOrder}
 use Rattle.tank_model.specs.Checks.{stepRefusal}
-use Rattle.tank_model.specs.Work.{unheated}
+use Rattle.tank_model.specs.Work.{feedIn, wantedVolumes, unheated}
 use Rattle.tank_arrays.specs.Arrays.{fittedIn, settingsIn, ZeroLines, fixedFor, stepFor}
 use Rattle.tank_refusals.specs.Refusals.{RefusedFor}
 use Rattle.tank_refusals.proofs.FirstRefusal.{step-counts}
@@ -65,9 +64,9 @@ module _ (q : StepNumbers) (heaters : List Float) (thermostats : List Bool) (vol
       passed = sym (checked (before .on)) ∙ none
 
       -- the events answered d, and left these layers
-      module _ (vol : List Float) (volumes-are : vol ≡ layerVolumes (q .cylinder)) (totals : Totals) (none-drawn : totals ≡ noTotals) (temps : List Float) (d : EventAnswer)
-          (events : drawingOf temps d ≡ drawAll (q .cylinder) vol (record { temperature = q .feed }) (firstVolumes (q .events) volumes) 0 (before .temps) totals) where
-        drawn : drawingOf temps d ≡ drawAll (q .cylinder) (layerVolumes (q .cylinder)) (record { temperature = q .feed }) (firstVolumes (q .events) volumes) 0 (before .temps) noTotals
+      module _ (vol : List Float) (volumes-are : vol ≡ f .vol) (totals : Totals) (none-drawn : totals ≡ noTotals) (temps : List Float) (d : EventAnswer)
+          (events : drawingOf temps d ≡ drawAll (q .cylinder) vol (feedIn a) (wantedVolumes a) 0 (before .temps) totals) where
+        drawn : drawingOf temps d ≡ drawAll (q .cylinder) (f .vol) (feedIn a) (wantedVolumes a) 0 (before .temps) noTotals
         drawn = rw (volumes-are, none-drawn) at events
 
         pub events-refuse : (d .number ≡ 0 → ⊥) → (w : WorkAnswer) → RefusedAfter (d .number) 0 w → Works w (stepArrays temps (before .on) (before .figures) (before .flags) (before .rounds) (before .course) (before .ran))
