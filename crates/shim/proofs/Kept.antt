@@ -24,6 +24,7 @@ use Rattle.storage_tank.specs.Calls.{stepped}
 use Rattle.storage_tank.specs.Answers.{acceptedStep}
 use Rattle.storage_tank.proofs.Answers.{step-refuses, step-accepts}
 use Rattle.storage_tank.proofs.Calls.{refused-step}
+use Rattle.lent_tank.specs.Lengths.{LentLengths}
 use Rattle.lent_tank.specs.Flags.{flagsIn, bytesOf}
 use Rattle.lent_tank.specs.Tanks.{cylinderIn, tankIn, TankHeld}
 use Rattle.lent_tank.specs.Reports.{reportIn, totalsOf, figuresOf, lineFlagsOf, roundsOf, ReportHeld}
@@ -82,7 +83,7 @@ pub record Kept (counts : List ℕ) (numbers temps heaters : List Float) (thermo
   pub line-flags-kept : lineFlags' ≡ lineFlags
   pub rounds-kept : rounds' ≡ rounds
 
-module _ (counts : List ℕ) (numbers temps heaters : List Float) (thermostats flags : List ℕ) (counts-long : length counts ≡ 2) (numbers-long : length numbers ≡ 6) (heaters-long : length heaters ≡ 24) (totals figures : List Float) (lineFlags rounds : List ℕ) (totals-long : length totals ≡ 4) (figures-long : length figures ≡ 24) (rounds-long : length rounds ≡ 8) where
+module _ (counts : List ℕ) (numbers temps heaters : List Float) (thermostats flags : List ℕ) (totals figures : List Float) (lineFlags rounds : List ℕ) (long : LentLengths counts numbers heaters totals figures rounds) where
   abbrev lentTank : StorageTank
   lentTank = tankIn counts numbers temps heaters thermostats flags
 
@@ -90,10 +91,10 @@ module _ (counts : List ℕ) (numbers temps heaters : List Float) (thermostats f
   lentReport = reportIn totals figures lineFlags rounds
 
   abbrev tank₀ : TankHeld lentTank counts numbers temps heaters
-  tank₀ = tank-held-as-lent counts numbers temps heaters thermostats flags counts-long numbers-long heaters-long
+  tank₀ = tank-held-as-lent counts numbers temps heaters thermostats flags (long .counts-long) (long .numbers-long) (long .heaters-long)
 
   abbrev report₀ : ReportHeld lentReport totals figures rounds
-  report₀ = report-held-as-lent totals figures lineFlags rounds totals-long figures-long rounds-long
+  report₀ = report-held-as-lent totals figures lineFlags rounds (long .totals-long) (long .figures-long) (long .rounds-long)
 
   pub refused-keeps : (a : Step) (number : ℕ) (counts' : List ℕ) (numbers' temps' heaters' : List Float) (thermostats' flags' : List ℕ) (totals' figures' : List Float) (lineFlags' rounds' : List ℕ) → StepLeft (stepped lentTank lentReport a) thermostats flags lineFlags number counts' numbers' temps' heaters' thermostats' flags' totals' figures' lineFlags' rounds' → 0 < number → Kept counts numbers temps heaters thermostats flags totals figures lineFlags rounds counts' numbers' temps' heaters' thermostats' flags' totals' figures' lineFlags' rounds'
   refused-keeps a number counts' numbers' temps' heaters' thermostats' flags' totals' figures' lineFlags' rounds' s l =

@@ -23,6 +23,7 @@ use Rattle.storage_tank.specs.declared.Report.{Report}
 use Rattle.storage_tank.specs.Tank.{fixedIn, stateIn}
 use Rattle.storage_tank.specs.Calls.{fittedHeaters, madeOf, made, answer, stepped}
 use Rattle.storage_tank.proofs.Calls.{refused-step}
+use Rattle.lent_tank.specs.Lengths.{LentLengths}
 use Rattle.lent_tank.specs.Flags.{flagIn, flagsIn, bytesOf, ZeroOrOne}
 use Rattle.lent_tank.specs.Tanks.{tankIn, TankHeld, TankWritten}
 use Rattle.lent_tank.specs.Reports.{reportIn, lineFlagsOf, ReportHeld}
@@ -135,13 +136,13 @@ module _ (counts : List ℕ) (numbers temps heaters : List Float) (thermostats f
       written-read (stepped lentTank lentReport a .tank) counts' numbers' temps' heaters' thermostats' flags' (s .tank-written) (ap length (fitted-kept lentTank lentReport a) ∙ fitted-long heaters (flagsIn thermostats))
 
   -- through the method, a refused step leaves the numbers as they were, and the bytes that are written of what was read in those lent
-  module _ (counts-long : length counts ≡ 2) (numbers-long : length numbers ≡ 6) (heaters-long : length heaters ≡ 24) (totals-long : length totals ≡ 4) (figures-long : length figures ≡ 24) (rounds-long : length rounds ≡ 8) where
+  module _ (long : LentLengths counts numbers heaters totals figures rounds) where
     pub method-refused-keeps : (number : ℕ) (counts' : List ℕ) (numbers' temps' heaters' : List Float) (thermostats' flags' : List ℕ) (totals' figures' : List Float) (lineFlags' rounds' : List ℕ) → StepAnswered (stepped lentTank lentReport a) number counts' numbers' temps' heaters' thermostats' flags' totals' figures' lineFlags' rounds' → 0 < number → Kept counts numbers temps heaters (bytesOf (flagsIn thermostats)) (bytesOf (flagsIn flags)) totals figures (bytesOf (flagsIn lineFlags)) rounds counts' numbers' temps' heaters' thermostats' flags' totals' figures' lineFlags' rounds'
     method-refused-keeps number counts' numbers' temps' heaters' thermostats' flags' totals' figures' lineFlags' rounds' s l =
         let above = subst (λ (n : ℕ). 0 < n) (s .number-is) l in
         let same = refused-step lentTank lentReport a above in
-        let t₀ = tank-held-as-lent counts numbers temps heaters thermostats flags counts-long numbers-long heaters-long in
-        let r₀ = report-held-as-lent totals figures lineFlags rounds totals-long figures-long rounds-long in
+        let t₀ = tank-held-as-lent counts numbers temps heaters thermostats flags (long .counts-long) (long .numbers-long) (long .heaters-long) in
+        let r₀ = report-held-as-lent totals figures lineFlags rounds (long .totals-long) (long .figures-long) (long .rounds-long) in
         let t = subst (λ (x : StorageTank). TankHeld x counts' numbers' temps' heaters') (same .0) (s .tank-written .held) in
         let r = subst (λ (x : Report). ReportHeld x totals' figures' rounds') (same .1) (s .report-written .held) in
         record {

@@ -15,6 +15,6 @@ pub record LineWritten (h : ℕ) (x : HeaterLine) (before : List HeaterLine) (fi
   pub holds : HoldsLines figures flags rounds
 
 -- the array r is `wanted`, laid out from xs, which are as many as there can be heaters
-pub record LaidOut (A B : Type 0) (xs : List A) (wanted r : List B) : Type 0 where
+pub record LaidOut {A B : Type 0} (xs : List A) (wanted r : List B) : Type 0 where
   pub is : r ≡ wanted
   pub many : length xs ≡ maxHeaters

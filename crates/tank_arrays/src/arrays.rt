@@ -83,7 +83,7 @@ pub fn write_line(
 // ---- between structs and arrays
 
 pub fn heaters_of(fitted: [Heater; MAX_HEATERS]) -> [f64; THREE_EACH]
-    ensures { λ r. ⌜ LaidOut _ _ fitted (heatersOf fitted) r ⌝ }
+    ensures { λ r. ⌜ LaidOut fitted (heatersOf fitted) r ⌝ }
 {
     let a = fitted[0];
     let b = fitted[1];
@@ -146,7 +146,7 @@ pub fn thermostats_of(fitted: [Heater; MAX_HEATERS]) -> [bool; MAX_HEATERS]
 
 // Whether the set points are present: the lower ones first, then the upper ones.
 pub fn present_of(settings: [Setting; MAX_HEATERS]) -> [bool; TWO_EACH]
-    ensures { λ r. ⌜ LaidOut _ _ settings (presentOf settings) r ⌝ }
+    ensures { λ r. ⌜ LaidOut settings (presentOf settings) r ⌝ }
 {
     let mut present = [false; TWO_EACH];
     let mut h = 0;
