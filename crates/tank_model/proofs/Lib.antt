@@ -9,6 +9,7 @@ pub mod Passes
 pub mod Mixings
 pub mod TurnFacts
 pub mod Parts
+pub mod WorkNumbers
 pub mod Course
 pub mod Steps
 pub mod SameFields

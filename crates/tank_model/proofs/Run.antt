@@ -30,6 +30,17 @@ unfolding endBy
 reached-by R zero s r = r
 reached-by R (suc n) s r = omega arith
 
+-- where it was refused, its number is as Q says
+abbrev pub RefusedOnly : {S : Type 0} → (ℕ → Type 0) → End S → Type 0
+RefusedOnly Q (refused n) = Q n
+RefusedOnly Q (done s) = Unit {0}
+
+pub refused-by : {S : Type 0} (Q : ℕ → Type 0) (n : ℕ) (s : S) → (n ≡ 0) ⊎ Q n → RefusedOnly Q (endBy n s)
+unfolding endBy
+refused-by Q zero s q = tt
+refused-by Q (suc n) s (inl z) = absurd (omega arith)
+refused-by Q (suc n) s (inr q) = q
+
 -- ---- a run that is worked
 
 -- the run r, and then what is worked from where it ended
@@ -85,6 +96,18 @@ module _ {K P S : Type 0} (f : K → S → Worked P S) where
         go : (n : ℕ) → Reached I (run f ks (f k s .leaves) .end) → Reached I (first (f k s .part) n (run f ks (f k s .leaves)) .end)
         go zero r = unfold first in r
         go (suc n) r = unfold first in (omega arith)
+
+  -- a run ends with a number that one of its parts drew: what each part's number is, where it is not 0, the run's is
+  module _ (Q : ℕ → Type 0) (one : (k : K) (s : S) → (f k s .number ≡ 0) ⊎ Q (f k s .number)) where
+    pub run-number : (ks : List K) (s : S) → RefusedOnly Q (run f ks s .end)
+    unfolding run
+    run-number [] s = tt
+    run-number (k ∷ ks) s = go (f k s .number) (one k s) (run-number ks (f k s .leaves))
+      where
+        go : (n : ℕ) → (n ≡ 0) ⊎ Q n → RefusedOnly Q (run f ks (f k s .leaves) .end) → RefusedOnly Q (first (f k s .part) n (run f ks (f k s .leaves)) .end)
+        go zero q r = unfold first in r
+        go (suc n) (inl z) r = absurd (omega arith)
+        go (suc n) (inr q) r = unfold first in q
 
   -- the parts of a run stand in sequence up to its end, where each is as `Part` and `Draws` say; I says what holds before each
   module _ (Part : K → S → P → S → Type 0) (Draws : P → S → ℕ → Type 0) (I : List K → S → Type 0)
