@@ -159,6 +159,38 @@ def see_step_record(tank, record, body):
 # Steps
 
 
+def faults(lower, upper):
+    """What is wrong with one heater's set points, in the order of 02 (R-1): number and words."""
+    found = []
+    for name, point in (("lower", lower), ("upper", upper)):
+        if point is not None and not model.finite(point):
+            found.append((12, name + " not finite"))
+    if lower is not None and upper is None:
+        found.append((8, "lower alone"))
+    if lower is not None and upper is not None and lower > upper:
+        found.append((13, "lower above upper"))
+    return found
+
+
+def why_set_points(tank, set_points):
+    """Why a step is refused for its set points; first of all the fault that decides."""
+    found = [faults(*points) for points in set_points]
+    faulty = [k for k, these in enumerate(found) if these]
+    if not faulty:
+        return []
+    first = found[faulty[0]]
+    number = first[0][0]
+    why = ["%d, %s" % fault for fault in first if fault[0] == number]
+    why += ["%d before %d, of one heater" % (number, other) for other, _ in first if other != number]
+    why += ["%d before %d of a later heater" % (number, found[k][0][0]) for k in faulty[1:]]
+    if faulty[0] > 0 and len(faulty) == 1:
+        why.append("%d, in a later entry alone" % number)
+    worked = next(k for k in model.working_order(tank) if k in faulty)
+    if found[worked][0][0] != number:
+        why.append("set points, by the given order and not the working order")
+    return why
+
+
 def why_refused(tank, record):
     """Why a step is refused, from its arguments and the tank before it."""
     feed, volumes, set_points = record
@@ -168,20 +200,7 @@ def why_refused(tank, record):
     if len(volumes) > model.MOST_EVENTS:
         why.append("6, 65 events" if len(volumes) == 65 else "6, more than 65 events")
         return why + ([] if model.finite(feed) else ["6 before 7"])
-    points = []
-    for k, (lower, upper) in enumerate(set_points):
-        found = []
-        if lower is not None and not model.finite(lower):
-            found.append("8, lower not finite")
-        if upper is not None and not model.finite(upper):
-            found.append("8, upper not finite")
-        if lower is not None and upper is None:
-            found.append("8, lower alone")
-        if not found and lower is not None and lower > upper:
-            found.append("8, lower above upper")
-        if found and k > 0 and not points:
-            found.append("8, in a later entry alone")
-        points += found
+    points = why_set_points(tank, set_points)
     if not model.finite(feed):
         why.append("7, feed")
     if not all(map(model.finite, volumes)):
@@ -189,7 +208,7 @@ def why_refused(tank, record):
     if any(v < 0.0 for v in volumes):
         why.append("7, volume below 0")
     if why:
-        return why + (["7 before 8"] if points else [])
+        return why + ["7 before %s" % words.split(",")[0] for words in points[:1]]
     return points or worked_until(tank, record)
 
 

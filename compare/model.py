@@ -136,6 +136,17 @@ def check_heater(heater):
     return 0
 
 
+def check_set_points(lower, upper):
+    """Of one heater (02, R-1)."""
+    if lower is not None and not finite(lower) or upper is not None and not finite(upper):
+        return 12
+    if lower is not None and upper is None:
+        return 8
+    if lower is not None and lower > upper:
+        return 13
+    return 0
+
+
 def check_step(tank, step):
     feed, volumes, set_points = step
     if len(volumes) > MOST_EVENTS or len(set_points) != len(tank.heaters):
@@ -143,10 +154,9 @@ def check_step(tank, step):
     if not finite(feed) or any(not finite(v) or v < 0.0 for v in volumes):
         return 7
     for lower, upper in set_points:
-        if lower is not None and not finite(lower) or upper is not None and not finite(upper):
-            return 8
-        if lower is not None and (upper is None or lower > upper):
-            return 8
+        number = check_set_points(lower, upper)
+        if number:
+            return number
     return 0
 
 

@@ -1,6 +1,20 @@
 """Wrong readers, checks and printers of jobs, for mutants.py: name, then old and new text of model.py, once or more."""
 
 CHECKED = "if not finite(feed) or any(not finite(v) or v < 0.0 for v in volumes):"
+NOT_FINITE = """    if lower is not None and not finite(lower) or upper is not None and not finite(upper):
+        return 12
+"""
+ALONE = """    if lower is not None and upper is None:
+        return 8
+"""
+ABOVE = """    if lower is not None and lower > upper:
+        return 13
+"""
+HEATERS = """    for lower, upper in set_points:
+        number = check_set_points(lower, upper)
+        if number:
+            return number
+"""
 LIMITS = "MOST_LAYERS, MOST_HEATERS, MOST_EVENTS, MOST_BYTES = 32, 8, 64, 65536"
 REFUSED = '                lines.append("S %d %d" % (index, refusal.number))\n                lines.append(layer_line(tank))\n'
 SET_POINTS = "set_points.append((lower if present & 1 else None, upper if present & 2 else None))"
@@ -62,14 +76,20 @@ JOB_MUTANTS = [
     ("volumes may be below 0", CHECKED, "if not finite(feed) or any(not finite(v) for v in volumes):"),
     ("lower may be not finite", "if lower is not None and not finite(lower) or upper", "if upper"),
     ("upper may be not finite", " or upper is not None and not finite(upper):", ":"),
-    ("lower may come alone", "lower is not None and (upper is None or lower > upper)", "lower is not None and upper is not None and lower > upper"),
-    ("lower may be above upper", "lower is not None and (upper is None or lower > upper)", "lower is not None and upper is None"),
-    ("lower may not be upper", "(upper is None or lower > upper)", "(upper is None or lower >= upper)"),
+    ("lower may come alone", ALONE, ALONE.replace("8", "0")),
+    ("lower may be above upper", ABOVE, ""),
+    ("lower may not be upper", ABOVE, ABOVE.replace("lower > upper", "lower >= upper")),
+    ("12 is 8 still", "        return 12\n", "        return 8\n"),
+    ("13 is 8 still", "        return 13\n", "        return 8\n"),
+    ("8 before 12", NOT_FINITE + ALONE, ALONE + NOT_FINITE),
+    ("13 before 12", NOT_FINITE, "    if lower is not None and upper is not None and lower > upper:\n        return 13\n" + NOT_FINITE),
+    ("set points only compared", NOT_FINITE, "", ABOVE, ABOVE.replace("lower > upper", "not lower <= upper")),
+    ("all heaters searched for 12 first", HEATERS, HEATERS.replace("in set_points", "in sorted(set_points, key=lambda pair: check_set_points(*pair) != 12)")),
+    ("the last faulty heater decides", HEATERS, HEATERS.replace("in set_points", "in reversed(set_points)")),
+    ("the first faulty heater in working order decides", HEATERS, HEATERS.replace("in set_points", "in [set_points[i] for i in working_order(tank)]")),
     ("7 before 6", "    feed, volumes, set_points = step\n    if len(volumes) > MOST_EVENTS",
      "    feed, volumes, set_points = step\n    if not finite(feed):\n        return 7\n    if len(volumes) > MOST_EVENTS"),
-    ("8 before 7", "    for lower, upper in set_points:\n        if lower is not None and not finite(lower)",
-     "    for lower, upper in []:\n        if lower is not None and not finite(lower)", CHECKED,
-     "for lower, upper in set_points:\n        if lower is not None and upper is None:\n            return 8\n    " + CHECKED),
+    ("set points before 7", HEATERS, "", "    " + CHECKED, HEATERS + "    " + CHECKED),
     # Printing
     ("a refusal's offset is past its length", '"E %d %d" % (refusal.number, at)', '"E %d %d" % (refusal.number, at + 4)'),
     ("indexes count accepted steps only", REFUSED, REFUSED + "                index -= 1\n"),

@@ -4,6 +4,7 @@ import struct
 from collections import namedtuple
 
 import progress
+import refusals
 
 Totals = namedtuple("Totals", "energy volume average recoverable")
 Line = namedtuple("Line", "flag adjusted supplied losses rounds")
@@ -65,6 +66,10 @@ def check_steps(told, day, name):
         raise WrongOutput("%s failed: it tells of %d steps, and the day has %d" % (name, count, due))
     if count < due and told.ended is None:
         raise WrongOutput("%s failed: it ended after %d of %d steps and says nothing of why" % (name, count, due))
+    for told_step, asked in zip(told.steps, day.steps):
+        number = told_step.number
+        if number in refusals.OF_SET_POINTS and refusals.first_fault(asked)[0] != number:
+            raise WrongOutput("%s failed: step %d has no set points that draw %d" % (name, told_step.index, number))
 
 
 def check_report(report, day, name):

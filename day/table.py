@@ -6,7 +6,7 @@ import textwrap
 
 import clock
 from records import record_at
-from refusals import words
+from refusals import words, words_for
 from text import decimal
 
 WIDE = 80
@@ -140,16 +140,16 @@ def numbers(values):
     return ", ".join("%d" % a if a == b else "%d%s%d" % (a, ", " if b == a + 1 else " to ", b) for a, b in runs)
 
 
-def refused_words(report):
+def refused_words(day, report):
     """Each refused step under the words of its refusal."""
-    by_number = {}
+    alike = {}
     for step in report.steps:
         if step.number:
-            by_number.setdefault(step.number, []).append(step.index)
+            alike.setdefault((step.number, words_for(step.number, day.steps[step.index])), []).append(step.index)
     lines = []
-    for number, indexes in sorted(by_number.items()):
+    for (number, told), indexes in sorted(alike.items(), key=lambda pair: (pair[0][0], pair[1])):
         which = "step%s %s" % ("s" if len(indexes) > 1 else "", numbers(indexes))
-        lines += wrapped("Refused, %s: refusal %d. %s" % (which, number, words(number)), "", "  ")
+        lines += wrapped("Refused, %s: refusal %d. %s" % (which, number, told), "", "  ")
     return lines
 
 
@@ -173,7 +173,7 @@ def table(day, report, name):
         when = clock.heading(day.tank.step_length)
         lines += ["", "After each step (%s: where it begins; flags and heaters in working order):" % when, ""]
         lines += steps_table(day, report)
-        refused = refused_words(report)
+        refused = refused_words(day, report)
         lines += [""] + refused if refused else []
     if day.heaters and any(step.totals for step in report.steps):
         lines += ["", "Heaters, accepted steps:", ""] + heaters_table(day, report)
@@ -197,7 +197,7 @@ def comma_separated(day, report):
     rows.writerow(heading + ["clock"])
     for step in report.steps:
         row = ["%d" % step.index, decimal(step.index * day.tank.step_length), "%d" % step.number]
-        row.append(words(step.number) if step.number else "")
+        row.append(words_for(step.number, day.steps[step.index]) if step.number else "")
         row += [decimal(value) for value in step.totals] if step.totals else [""] * 4
         row += [decimal(step.layers[layer]) for layer in layers]
         for place in order:

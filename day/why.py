@@ -7,7 +7,7 @@ then at or under the lower set point. It goes off where a turn ends with the upp
 import itertools
 
 from clock import begin_words
-from refusals import words
+from refusals import words_for
 from report import WrongOutput
 from table import degrees, numbers, wrapped
 from text import decimal
@@ -159,7 +159,7 @@ def why(day, history, last):
     step = history.steps[last]
     lines = ["After %s%s:" % (step_words(last, day), ", the last" if last == len(history.steps) - 1 else "")]
     if step.number:
-        refusal = "refusal %d. %s" % (step.number, words(step.number))
+        refusal = "refusal %d. %s" % (step.number, words_for(step.number, day.steps[last]))
         lines += wrapped("That step was refused and left every flag alone: %s" % refusal)
     if not day.heaters:
         lines += ["", "The tank has no heaters."]

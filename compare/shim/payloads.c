@@ -123,11 +123,21 @@ static void bad_volume(lent *m) {
     m->step.feed = 12;
 }
 static void bad_points(lent *m) { right_draws(m); }
-static void lower_alone(lent *m) {
+/* The first heater's set points pass; the second has a lower one that is a pattern, and no upper one. */
+static void pattern_alone(lent *m) {
     right_draws(m);
     m->step.present[1] = 1;
     m->step.present[HEATERS + 1] = 0;
     m->step.points[HEATERS] = 60;
+}
+static void lower_alone(lent *m) {
+    pattern_alone(m);
+    m->step.points[1] = 50;
+}
+static void lower_above(lent *m) {
+    lower_alone(m);
+    m->step.present[HEATERS + 1] = 1;
+    m->step.points[HEATERS + 1] = 49;
 }
 static void unordered(lent *m) {
     right_points(m);
@@ -155,8 +165,9 @@ static void loss_large(lent *m) {
 static const refusal refusals[] = {
     {1, no_layers},   {1, many_layers}, {1, most_layers}, {2, many_heaters}, {3, bad_numbers},
     {3, bad_density}, {4, bad_temps},   {4, bad_layer},   {5, bad_heaters},  {6, many_events},
-    {6, bad_entries}, {7, bad_feed},    {7, bad_volume},  {8, bad_points},   {8, lower_alone},
-    {9, unordered},   {9, heat_large},  {10, energy_large}, {10, loss_large},
+    {6, bad_entries}, {7, bad_feed},    {7, bad_volume},  {8, lower_alone},  {9, unordered},
+    {9, heat_large},  {10, energy_large}, {10, loss_large}, {12, bad_points}, {12, pattern_alone},
+    {13, lower_above},
 };
 
 /* The two ways to step. */

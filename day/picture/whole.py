@@ -13,7 +13,7 @@ from picture.keys import keys
 from picture.refused import REFUSED, hatches, refused_marks, some_refused
 from picture.svg import FONT, GREY, INK, Scale, box, element, widened, words
 from picture.temperatures import limits, temperatures
-from refusals import words as refusal_words
+from refusals import words_for_all
 from table import ended_words, tank_words
 
 # Where panels begin and how high they are; `layer` and `flag` are the heights of a layer's and of a flag's row.
@@ -37,7 +37,10 @@ def heading(frame, title):
 
 def foot_lines(frame):
     """The refusals met, in words, and why steps are missing, if so."""
-    texts = ["refused %d: %s" % (number, refusal_words(number)) for number in sorted(set(frame.refused) - {0})]
+    texts = []
+    for number in sorted(set(frame.refused) - {0}):
+        steps = [step for drawn, step in zip(frame.refused, frame.day.steps) if drawn == number]
+        texts.append("refused %d: %s" % (number, words_for_all(number, steps)))
     texts.append(ended_words(frame.day, frame.report))
     return [piece for text in texts for piece in textwrap.wrap(text, 155, break_on_hyphens=False)]
 

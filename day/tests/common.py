@@ -21,6 +21,9 @@ DAY = os.path.dirname(TESTS)
 ROOT = os.path.dirname(DAY)
 sys.path[:0] = [DAY, TESTS]
 
+import programs  # noqa: E402
+import records  # noqa: E402
+import report  # noqa: E402
 import text  # noqa: E402
 
 
@@ -157,6 +160,13 @@ def tank(layers=4, initial=55, length=1):
 
 def day_of(lines):
     return text.read_text(lines.encode())
+
+
+def told(lines):
+    """The day of a text, what job reports of it, and the lines that it prints."""
+    day = day_of(lines)
+    printed = programs.lines_of("job", records.job_bytes(day), len(day.steps))
+    return day, report.read_report(printed, day.working_order()), printed
 
 
 COMMAND = loaded()

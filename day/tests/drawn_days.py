@@ -1,5 +1,6 @@
 """Days to draw: random ones that the programs run, and made-up ones of any length."""
 
+import math
 import random
 import xml.etree.ElementTree as ElementTree
 
@@ -36,6 +37,10 @@ def outcome(day):
     return result, turns.read_history(programs.lines_of("history", job, count))
 
 
+# Set points that draw the numbers of set points.
+FAULTS = {8: (45.0, None), 12: (math.nan, 60.0), 13: (70.0, 60.0)}
+
+
 def made_up(seed, layers, heaters, steps, length=0.5, low=5.0, high=80.0, refused=0.02, kinds=(7, 8)):
     """A day of any length with figures from nowhere: a picture is to show what it is given."""
     chance = random.Random(seed)
@@ -47,8 +52,10 @@ def made_up(seed, layers, heaters, steps, length=0.5, low=5.0, high=80.0, refuse
     for index in range(steps):
         number = 0 if chance.random() >= refused else chance.choice(kinds)
         volumes = [30.0, 10.0] if chance.random() < 0.1 else []
-        points = (45.0 - index // 5 % 2, 60.0 + index // 3 % 2)
-        day.steps.append(records.Step(10.0, volumes, [points] * heaters))
+        points = [(45.0 - index // 5 % 2, 60.0 + index // 3 % 2)] * heaters
+        if number in FAULTS:
+            points[index % heaters] = FAULTS[number]
+        day.steps.append(records.Step(10.0, volumes, points))
         totals = None if number else report.Totals(0.0, 0.0, 50.0, 0.1)
         flags = {} if number else {place: chance.choice(lines) for place in range(heaters)}
         told.append(report.StepReport(index, number, totals, chance.choice(pool), flags))

@@ -179,6 +179,7 @@ class Linear(unittest.TestCase):
         steps = [turns.StepTurns(index, 0, [turn]) for index in range(10 * YEAR)]
         steps += [dropped._replace(index=index) for index in range(10 * YEAR, 20 * YEAR)]
         day = day_of(tank(length=0.5) + "heater rated power 2 kW, position 0.1 of height\n")
+        day.steps = [records.Step(10.0, [], [(50.0, 60.0)])] * len(steps)
         began = time.process_time()
         told = why.why(day, turns.History(steps, None), len(steps) - 1)
         self.assertLess(time.process_time() - began, 10)

@@ -77,6 +77,10 @@ class Checks(unittest.TestCase):
             self.assertEqual(part.get("fill").startswith("url(#"), not of_class(part, "some"))
 
 
+# Each refusal that a step of a job can have.
+STEP_REFUSALS = (6, 7, 8, 9, 10, 12, 13)
+
+
 class Fits(Checks):
     def test_every_shape(self):
         for seed, (layers, heaters, steps, length) in enumerate(SHAPES):
@@ -103,10 +107,10 @@ class Fits(Checks):
         """Each refusal that a step can have, in words, and why the job ended: the foot takes height from the panels."""
         for layers, heaters, steps in ((8, 8, 336), (8, 8, 1488), (32, 8, 100)):
             with self.subTest(layers=layers, heaters=heaters, steps=steps):
-                day, result, history = made_up(1, layers, heaters, steps, refused=0.3, kinds=(6, 7, 8, 9, 10))
+                day, result, history = made_up(1, layers, heaters, steps, refused=0.3, kinds=STEP_REFUSALS)
                 root = drawn(day, result._replace(ended=(11, 99999)), history)
                 self.check_fits(root, heaters)
-                for begin in ["refused %d: " % number for number in (6, 7, 8, 9, 10)] + ["The job ended at "]:
+                for begin in ["refused %d: " % number for number in STEP_REFUSALS] + ["The job ended at "]:
                     self.assertTrue(any(text.startswith(begin) for text in texts(root)), begin)
 
     def check_fits(self, root, heaters):

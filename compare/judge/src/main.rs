@@ -34,7 +34,7 @@ judge list test FOLDER CRATES                 all that `list write` writes says 
 judge list replay FOLDER server COMMAND...    the list against a process that answers requests
 judge list replay FOLDER program COMMAND...   the list against a program started for each job
 judge parts FROM N                            N seeds of each shape: steps worked whole and in parts agree
-judge differences                             where the Rust and document 01 part, run
+judge differences                             where the Rust and the documents part, run
 judge rounds N                                the most rounds in N random mixings of finite layers
 judge speed N                                 jobs a second, shape by shape
 ";

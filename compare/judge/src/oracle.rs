@@ -1,4 +1,4 @@
-//! The judge: the Rust's answers, and where document 01 refuses, 01's.
+//! The judge: the Rust's answers, and where the documents refuse (01, and 02 for its requests), theirs: 'by 01'.
 //!
 //! A figure comes from the Rust. A number other than 0, and the layers beside it, come from 01: its checks are in
 //! `checks.rs`, 9 and 10 are found below, and the tank is put back as it was.
@@ -61,7 +61,7 @@ impl Judged {
         self.tank.put(state)
     }
 
-    /// 4 of 01 for the layers stored, then 6 to 8, then the work.
+    /// 4 of 01 for the layers stored, then 6, 7 and the set points, then the work.
     pub fn step(&mut self, step: &Step) -> Outcome {
         let before = self.tank.state();
         let number = match check_tank(&self.making, &before.layers) {
@@ -185,7 +185,7 @@ fn hex(line: &mut String, x: f64) {
     write!(line, " {:016x}", x.to_bits()).unwrap();
 }
 
-/// One line, and whether it rests on 01 alone.
+/// One line, and whether it rests on the documents alone.
 #[derive(Clone, Debug, PartialEq)]
 pub struct Line {
     pub text: String,

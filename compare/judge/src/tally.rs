@@ -118,7 +118,7 @@ impl Tally {
                 .collect();
             if !counts.is_empty() {
                 out.push_str(&format!(
-                    "refused by 01's checks, {name}: {}\n",
+                    "refused by the documents, {name}: {}\n",
                     counts.join(", ")
                 ));
             }

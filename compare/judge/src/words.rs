@@ -111,7 +111,7 @@ pub fn difference(expected: &[Line], got: &str) -> Option<String> {
             heater += line.text.starts_with('H') as usize;
             continue;
         }
-        let source = if line.by_01 { "document 01" } else { "the Rust" };
+        let source = if line.by_01 { "the documents" } else { "the Rust" };
         let mut theirs = other.trim_end_matches('\n').split(' ');
         let kind = line.text.split(' ').next().unwrap_or("");
         let place = if kind == "H" {

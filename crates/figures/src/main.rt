@@ -4,6 +4,7 @@
 mod answers;
 mod asymmetric;
 mod draws;
+mod faults;
 mod heaters;
 mod mixes;
 mod print;
@@ -18,6 +19,7 @@ fn main() {
     heaters::figures();
     heaters::edges();
     asymmetric::figures();
+    faults::figures();
     refusals::make();
     refusals::step();
     refusals::between();

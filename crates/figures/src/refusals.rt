@@ -150,7 +150,9 @@ fn step_arguments() {
 }
 
 fn step_set_points() {
-    print::word(b"# 8: the lower set point alone, above the upper, and one that is not finite\n");
+    print::word(
+        b"# 8, 13 and 12: the lower set point alone, above the upper, and one that is not finite\n",
+    );
     heated(1, SetPoints::Lower(50.0));
     heated(1, SetPoints::Both(60.0, 50.0));
     heated(1, SetPoints::Upper(1.0 / 0.0));

@@ -1,5 +1,6 @@
--- What the calls answer from what their parts decide, the proof of demand 3, and the laws of the calls.
+-- What the calls answer from what their parts decide, the proof of demand 3, the laws of the calls, and what became of 01's refusal 8.
 pub mod Answers
 pub mod Demand
+pub mod EightSplit
 pub mod Calls
 pub mod Kept

@@ -1,4 +1,4 @@
--- The laws of a step's work, and the proof of what demand 3 says of a list's history.
+-- The laws of a step's work, the proof of what demand 3 says of a list's history, and what became of 01's refusal 8.
 pub mod Run
 pub mod Latch
 pub mod Members
@@ -16,3 +16,4 @@ pub mod SameFields
 pub mod Once
 pub mod ListOnce
 pub mod HistoryDemand
+pub mod EightSplit

@@ -1,9 +1,9 @@
--- Proves that the checks of make and of a step answer the number of the first of 01's sentences 1 to 8 that holds, and 0 where none does (01, The four calls).
+-- Proves that the checks of make and of a step answer the number of the first of the sentences that holds (01, The four calls; 02, R-1), and 0 where none does.
 use mathlib.Core.Path.{_≡_, refl, sym, _∙_, subst}
 use mathlib.Core.Logic.{_↔_, _⊎_, inl, inr, ⊎-elim}
 use mathlib.Core.List.{List, [], _∷_, _++_}
-use mathlib.Core.Bool.{Bool, _&&_}
-use Prim.Native.Nat.{ℕ, zero, suc, _<_}
+use mathlib.Core.Bool.{Bool, cond, not, _&&_}
+use Prim.Native.Nat.{ℕ, zero, suc, _+_, _<_}
 use native.Mathlib.Omega.{arith}
 use lib.Dec.{T, lit<}
 use lib.ListN.{length, getD}
@@ -11,6 +11,7 @@ use lib.Ieee.{Float, nan, lt, le}
 use lib.Ieee.Scale.{finite}
 use lib.Ieee.Fits.{and-l, and-r, and-i}
 use Rattle.numeric.specs.Double.{zero-f, one-f}
+use Rattle.numeric.specs.Tabulate.{tabulate}
 use Rattle.cylinder.specs.Layers.{allFinite}
 use Rattle.set_points.specs.declared.SetPoints.{SetPoints}
 use Rattle.set_points.specs.declared.SetPoints.the-variants.{Neither, Lower, Upper, Both}
@@ -18,16 +19,16 @@ use Rattle.tank_model.specs.declared.TankDesign.{TankDesign}
 use Rattle.tank_model.specs.declared.Step.{Step}
 use Rattle.tank_model.specs.Fixed.{Placed, State, heaterOf, fixedOf}
 use Rattle.tank_model.specs.FirstRefusal.{firstRefusal, firstAmong, decides, goes-on, last-decides, among-passes, among-found}
-use Rattle.tank_model.specs.Checks.{unless, isPositive, isPosition, heatersCheck, heaterCheck, placesCheck, tankChecks, pointsOf, countsCheck, volumeCheck, pointsCheck, stepChecks, makeRefusal, stepRefusal}
-use Rattle.tank_model.specs.Arguments.{eventVolume}
-use Rattle.tank_model.specs.Refusals.{NotFinite, BelowZero, NotFiniteAndAboveZero, NoPosition, SomeBelow, LayerNotFinite, LayersRefused, HeatersRefused, NumbersRefused, TemperaturesRefused, PlacesRefused, CountsRefused, FeedRefused, BadPoints, PointsRefused, FirstOf, tankSentences, stepSentences, MakeRefusal, StepRefusal}
+use Rattle.tank_model.specs.Checks.{unless, isPositive, isPosition, heatersCheck, heaterCheck, placesCheck, tankChecks, countsCheck, volumeCheck, pointsCheck, stepChecks, makeRefusal, stepRefusal}
+use Rattle.tank_model.specs.Arguments.{setPointsOf, eventVolume}
+use Rattle.tank_model.specs.Refusals.{NotFinite, BelowZero, NotFiniteAndAboveZero, NoPosition, SomeBelow, LayerNotFinite, LayersRefused, HeatersRefused, NumbersRefused, TemperaturesRefused, PlacesRefused, CountsRefused, FeedRefused, LowerAlone, LowerAboveUpper, FirstOf, pointsSentences, settingsSentences, tankSentences, stepSentences, MakeRefusal, StepRefusal}
 use Rattle.tank_model.proofs.Order.{heater-is, heaters-many}
 use Rattle.tank_model.proofs.Sentences.{Fails, passing, failing, fails-not, fails-test, fails-as, fails-two, fails-three, fails-four, fails-some, fails-le, fails-eq, fails-finite, fails-negative}
 
 -- ---- the first sentence that holds
 
 -- no sentence has the number 0
-abbrev Numbered : List (ℕ × Type 0) → Type 0
+abbrev pub Numbered : List (ℕ × Type 0) → Type 0
 Numbered [] = Unit {0}
 Numbered (x ∷ xs) = (0 < x .0) × Numbered xs
 
@@ -43,14 +44,22 @@ first-then (x ∷ xs) ys k ks n (inr p) q = inr (p .0, first-then xs ys k ks (n 
 none-left : Answer [] []
 none-left = record { first = unfold firstRefusal in refl }
 
+-- the last check, of any sentences
+the-last : (xs : List (ℕ × Type 0)) (k : ℕ) → FirstOf xs k → Answer xs (k ∷ [])
+the-last xs k f = record { first = subst (FirstOf xs) (last-decides k k refl) f }
+
 -- a check, of one sentence or more, and then the checks after it
 then : (xs : List (ℕ × Type 0)) {ys : List (ℕ × Type 0)} {k : ℕ} {ks : List ℕ} → Numbered xs → FirstOf xs k → Answer ys ks → Answer (xs ++ ys) (k ∷ ks)
 then xs n f a = record { first = first-then xs _ _ _ n f (a .first) }
 
+-- a sentence by a test, and what is answered for those after it where it does not hold
+answers-then : (n : ℕ) (xs : List (ℕ × Type 0)) (k : ℕ) {b : Bool} {S : Type 0} → Fails S b → FirstOf xs k → FirstOf ((n, S) ∷ xs) (cond b k n)
+answers-then n xs k (passing f) q = inr (f, q)
+answers-then n xs k (failing f) q = inl (f, refl)
+
 -- one sentence: by a test, by two checks of one number, and by a check of places one after the other
 answers : (n : ℕ) {b : Bool} {S : Type 0} → Fails S b → FirstOf ((n, S) ∷ []) (unless b n)
-answers n (passing f) = inr (f, refl)
-answers n (failing f) = inl (f, refl)
+answers n f = answers-then n [] 0 f refl
 
 answers-either : (n k j : ℕ) (S R : Type 0) → 0 < n → FirstOf ((n, S) ∷ []) k → FirstOf ((n, R) ∷ []) j → FirstOf ((n, S ⊎ R) ∷ []) (firstRefusal (k ∷ j ∷ []))
 answers-either n k j S R l (inl p) q = inl (inl (p .0), sym (decides k k (j ∷ []) refl (λ z. omega (arith, z, p .1))) ∙ p .1)
@@ -94,12 +103,22 @@ position-fails x = fails-not (isPosition x) (two-facts (le zero-f x) (lt x one-f
 heater-answers : (x : Placed) → FirstOf ((5, (NotFinite (x .rated) ⊎ BelowZero (x .rated)) ⊎ NoPosition (x .position) ⊎ NoPosition (x .thermostat)) ∷ []) (heaterCheck x)
 heater-answers x = answers 5 (fails-three (fails-negative (x .rated)) (position-fails (x .position)) (position-fails (x .thermostat)))
 
-points-answer : (p : SetPoints) → FirstOf ((8, BadPoints p) ∷ []) (pointsCheck p)
+-- the sentences after 12's
+abbrev finitePoints : SetPoints → List (ℕ × Type 0)
+finitePoints p = (8, LowerAlone p) ∷ (13, LowerAboveUpper p) ∷ []
+
+points-answer : (p : SetPoints) → FirstOf (pointsSentences p) (pointsCheck p)
 unfolding pointsCheck
-points-answer Neither = inr (λ x. x, refl)
-points-answer (Lower l) = inl (tt, refl)
-points-answer (Upper u) = answers 8 (fails-finite u)
-points-answer (Both l u) = answers 8 (fails-three (fails-finite l) (fails-finite u) (fails-test (lt u l)))
+points-answer Neither = inr (λ x. x, inr (λ x. x, inr (λ x. x, refl)))
+points-answer (Lower l) = answers-then 12 (finitePoints (Lower l)) 8 (fails-finite l) (inl (tt, refl))
+points-answer (Upper u) = answers-then 12 (finitePoints (Upper u)) 0 (fails-finite u) (inr (λ x. x, inr (λ x. x, refl)))
+points-answer (Both l u) =
+    answers-then 12 (finitePoints (Both l u)) (unless (not (lt u l)) 13) (fails-two (fails-finite l) (fails-finite u)) (inr (λ x. x, answers 13 (fails-test (lt u l))))
+
+settings-answer : (a : Step) (n h : ℕ) → Answer (settingsSentences a n h) (tabulate (λ (k : ℕ). pointsCheck (setPointsOf a k)) n h)
+unfolding tabulate
+settings-answer a zero h = none-left
+settings-answer a (suc n) h = then (pointsSentences (setPointsOf a h)) (lit< tt, (lit< tt, (lit< tt, tt))) (points-answer (setPointsOf a h)) (settings-answer a n (h + 1))
 
 pub layers-fail : (m : TankDesign) (temps : List Float) → Fails (LayerNotFinite m temps) (allFinite (m .layers) temps)
 unfolding allFinite
@@ -131,15 +150,14 @@ module _ (m : TankDesign) where
       (then ((4, TemperaturesRefused m Temperature) ∷ []) (lit< tt, tt) four
       (then ((5, PlacesRefused m) ∷ []) (lit< tt, tt) places-answer r))))
 
-  -- 6 to 8
+  -- 6, 7, and the set points
   step-answers : (a : Step) → Answer (stepSentences m a) (stepChecks (fixedOf m) a)
   step-answers a =
       let volumes = answers-some 7 (λ (i : ℕ). volumeCheck (eventVolume a i)) (a .events) _ (lit< tt) (λ i l. answers 7 (fails-negative (eventVolume a i))) in
       let seven = answers-either 7 _ _ _ _ (lit< tt) (answers 7 (fails-finite (a .feed))) volumes in
-      let eight = answers-some 8 (λ (h : ℕ). pointsCheck (pointsOf a h)) (a .entries) _ (lit< tt) (λ h l. points-answer (pointsOf a h)) in
       then ((6, CountsRefused m a) ∷ []) (lit< tt, tt) (counts-answer a)
       (then ((7, FeedRefused a) ∷ []) (lit< tt, tt) seven
-      (then ((8, PointsRefused a) ∷ []) (lit< tt, tt) eight none-left))
+      (the-last (settingsSentences a (a .entries) 0) _ (settings-answer a (a .entries) 0 .first)))
 
   -- ---- what make and a step are refused for: n exactly when n's sentence holds and none before it
 

@@ -1,5 +1,6 @@
--- States the checks 1 to 8 of make and of a step (01, The four calls). Each answers its number, and 0 where it passes; a check of several places answers the
--- number of the first that does not pass; and the lists `tankChecks` and `stepChecks` are their order: the first that does not pass decides.
+-- States the checks of make and of a step: 1 to 7 (01, The four calls), and in 8's place 12, 8 and 13 (02, R-1). Each answers its number, and 0 where it
+-- passes; a check of several places answers the number of the first that does not pass; and the lists `tankChecks` and `stepChecks` are their order: the first
+-- that does not pass decides.
 use Prim.Native.Nat.{ℕ}
 use mathlib.Core.Bool.{Bool, cond, not, _&&_}
 use mathlib.Core.List.{List, [], _∷_, _++_}
@@ -94,23 +95,27 @@ volumesCheck n volumes = firstAmong (λ (i : ℕ). volumeCheck (getD volumes i n
 abbrev pub drawsCheck : Float → ℕ → List Float → ℕ
 drawsCheck feed n volumes = firstRefusal (feedCheck feed ∷ volumesCheck n volumes ∷ [])
 
--- of one heater's set points: present ones are finite, the lower one does not come alone, and is not greater than the upper; and of n heaters'
+-- of one heater's set points: 12 where a present one is not finite; else 8 where the lower one comes alone, and 13 where it is greater than the upper.
+-- And of n heaters', in the given order
 unfoldable pub pointsCheck : SetPoints → ℕ
 pointsCheck Neither = 0
-pointsCheck (Lower l) = 8
-pointsCheck (Upper u) = unless (finite u) 8
-pointsCheck (Both l u) = unless (finite l && finite u && not (lt u l)) 8
+pointsCheck (Lower l) = cond (finite l) 8 12
+pointsCheck (Upper u) = unless (finite u) 12
+pointsCheck (Both l u) = cond (finite l && finite u) (unless (not (lt u l)) 13) 12
 
 abbrev pub settingsCheck : ℕ → List Setting → ℕ
 settingsCheck n settings = firstAmong (λ (h : ℕ). pointsCheck (getD settings h noSetting .points)) n
 
--- 6 to 8
-abbrev pub stepChecks : Fixed → Step → List ℕ
-stepChecks f a =
+-- 6 and 7
+abbrev pub argumentChecks : Fixed → Step → List ℕ
+argumentChecks f a =
     countsCheck (length (f .heaters)) (a .events) (a .entries)
     ∷ drawsCheck (a .feed) (a .events) (a .volumes)
-    ∷ settingsCheck (a .entries) (a .settings)
     ∷ []
+
+-- 6, 7, and then 12, 8 or 13
+abbrev pub stepChecks : Fixed → Step → List ℕ
+stepChecks f a = argumentChecks f a ++ settingsCheck (a .entries) (a .settings) ∷ []
 
 -- what make's arguments are refused for, and what a step is refused for before it works; 0 for nothing
 unfoldable pub makeRefusal : Fixed → Float → ℕ

@@ -224,7 +224,7 @@ EventsThenTurns m st a w s =
     InSequence (EventPart m a) (EventDraws m) (ThenTurns m st a w) (λ (n : ℕ). (w .end ≡ refused n) × (w .turns ≡ []))
     s (tabulate (eventVolume a) (a .events) 0) (w .events)
 
--- A step from the state st is refused for the first of 1 to 8 that holds, with nothing worked; or none holds and it is worked, from its opening on
+-- A step from the state st is refused for the first sentence that holds, with nothing worked; or none holds and it is worked, from its opening on
 abbrev pub Course : TankDesign → State → Step → Work → Type 0
 Course m st a w =
     ((n : ℕ) × (0 < n) × StepRefusal m st a n × (w .end ≡ refused n) × (w .events ≡ []) × (w .turns ≡ []))

@@ -1,4 +1,5 @@
--- What a tank is made from and a step changes, a step's checks and work, the history of a list of calls, and what demand 3 says of it.
+-- What a tank is made from and a step changes, a step's checks and work, the history of a list of calls, and what demand 3 says of it; and what became of
+-- 01's refusal 8.
 pub mod Fixed
 pub mod Order
 pub mod FirstRefusal
@@ -11,3 +12,4 @@ pub mod Arguments
 pub mod Refusals
 pub mod Course
 pub mod HistoryDemand
+pub mod EightSplit

@@ -1,9 +1,10 @@
--- States the refusals 1 to 8 in 01's sentences, one relation a number, over the arguments of make and of a step (01, The four calls): a refusal's number is
--- that of the first sentence that holds. Nothing here cites a check; proofs/Refusals.antt proves that the checks answer so.
+-- States what make and a step are refused for before any work, in sentences over their arguments, one relation a number: 1 to 7 in 01's (The four calls), and
+-- in 8's place 12, 8 and 13 in 02's (R-1). A refusal's number is that of the first sentence that holds. Nothing here cites a check; proofs/Refusals.antt proves
+-- that the checks answer so.
 use mathlib.Core.Path.{_≡_}
 use mathlib.Core.Logic.{_⊎_, _≢_}
 use mathlib.Core.List.{List, [], _∷_, _++_}
-use Prim.Native.Nat.{ℕ, _<_}
+use Prim.Native.Nat.{ℕ, zero, suc, _+_, _<_}
 use lib.Dec.{T}
 use lib.ListN.{getD}
 use lib.Ieee.{Float, nan, lt, le}
@@ -76,15 +77,26 @@ CountsRefused m a = (64 < a .events) ⊎ (a .entries ≢ m .heaters)
 abbrev pub FeedRefused : Step → Type 0
 FeedRefused a = NotFinite (a .feed) ⊎ SomeBelow (a .events) (λ (i : ℕ). NotFinite (eventVolume a i) ⊎ BelowZero (eventVolume a i))
 
--- 8. A present set point is not finite, or the lower one comes without the upper, or is greater than it.
-abbrev pub BadPoints : SetPoints → Type 0
-BadPoints Neither = ⊥
-BadPoints (Lower l) = Unit {0}
-BadPoints (Upper u) = NotFinite u
-BadPoints (Both l u) = NotFinite l ⊎ NotFinite u ⊎ T (lt u l)
+-- 12. A present set point is not finite.
+abbrev pub PointNotFinite : SetPoints → Type 0
+PointNotFinite Neither = ⊥
+PointNotFinite (Lower l) = NotFinite l
+PointNotFinite (Upper u) = NotFinite u
+PointNotFinite (Both l u) = NotFinite l ⊎ NotFinite u
 
-abbrev pub PointsRefused : Step → Type 0
-PointsRefused a = SomeBelow (a .entries) (λ (h : ℕ). BadPoints (setPointsOf a h))
+-- 8. The lower set point comes without the upper.
+abbrev pub LowerAlone : SetPoints → Type 0
+LowerAlone Neither = ⊥
+LowerAlone (Lower l) = Unit {0}
+LowerAlone (Upper u) = ⊥
+LowerAlone (Both l u) = ⊥
+
+-- 13. The lower set point is greater than the upper.
+abbrev pub LowerAboveUpper : SetPoints → Type 0
+LowerAboveUpper Neither = ⊥
+LowerAboveUpper (Lower l) = ⊥
+LowerAboveUpper (Upper u) = ⊥
+LowerAboveUpper (Both l u) = T (lt u l)
 
 -- ---- the first that holds
 
@@ -93,13 +105,25 @@ abbrev pub FirstOf : List (ℕ × Type 0) → ℕ → Type 0
 FirstOf [] n = n ≡ 0
 FirstOf (x ∷ xs) n = (x .1 × (n ≡ x .0)) ⊎ (¬ (x .1) × FirstOf xs n)
 
--- make, and a step for its tank, apply 1 to 5 in order; then a step applies 6 to 8
+-- for one heater the order is 12, 8, 13
+abbrev pub pointsSentences : SetPoints → List (ℕ × Type 0)
+pointsSentences p = (12, PointNotFinite p) ∷ (8, LowerAlone p) ∷ (13, LowerAboveUpper p) ∷ []
+
+-- n heaters' set points, from the heater given as h on: they are looked at in the given order, and the first faulty one decides
+abbrev pub settingsSentences : Step → ℕ → ℕ → List (ℕ × Type 0)
+settingsSentences a zero h = []
+settingsSentences a (suc n) h = pointsSentences (setPointsOf a h) ++ settingsSentences a n (h + 1)
+
+-- make, and a step for its tank, apply 1 to 5 in order; then a step applies 6 and 7, and then looks at its set points
 abbrev pub tankSentences : TankDesign → Type 0 → List (ℕ × Type 0)
 tankSentences m Temperature =
     (1, LayersRefused m) ∷ (2, HeatersRefused m) ∷ (3, NumbersRefused m) ∷ (4, TemperaturesRefused m Temperature) ∷ (5, PlacesRefused m) ∷ []
 
+abbrev pub argumentSentences : TankDesign → Step → List (ℕ × Type 0)
+argumentSentences m a = (6, CountsRefused m a) ∷ (7, FeedRefused a) ∷ []
+
 abbrev pub stepSentences : TankDesign → Step → List (ℕ × Type 0)
-stepSentences m a = (6, CountsRefused m a) ∷ (7, FeedRefused a) ∷ (8, PointsRefused a) ∷ []
+stepSentences m a = argumentSentences m a ++ settingsSentences a (a .entries) 0
 
 -- n is what make is refused for, or 0
 abbrev pub MakeRefusal : TankDesign → ℕ → Type 0

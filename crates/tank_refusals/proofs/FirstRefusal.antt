@@ -1,4 +1,4 @@
--- Proves what the functions that go through the checks 1 to 8 cite (01, The four calls): the checks of heaters that stand in an array, and what a step that passes
+-- Proves what the functions that go through the checks cite (01, The four calls): the checks of heaters that stand in an array, and what a step that passes
 -- says of its counts.
 use mathlib.Core.Path.{_≡_, refl, sym, ap, _∙_}
 use mathlib.Core.List.{List, _∷_, _++_}

@@ -1,5 +1,5 @@
-// The checks 1 to 8 of make and of a step, one function each, by its definition's name: it answers its number, and 0 where it passes. A check of several places
-// answers the first number that is not 0.
+// The checks of make and of a step, 1 to 7, and 12, 8 and 13 of set points, one function each, by its definition's name: it answers its number, and 0 where it
+// passes. A check of several places answers the first number that is not 0.
 ghost use mathlib.Core.Path.{_≡_};
 ghost use Prim.Native.Nat.{_+_, _≤_};
 ghost use Rattle.draw_events.specs.Lent.{maxEvents};
@@ -192,37 +192,51 @@ pub fn draws_check(feed: f64, n: usize, volumes: &[f64; MAX_EVENTS]) -> u8
     volumes_check(n, volumes)
 }
 
-// 8, of one heater's set points: present ones are finite, the lower one does not come alone, and is not greater than the upper.
+// Of one heater's set points: 12 where a present one is not finite; else 8 where the lower one comes alone, and 13 where it is greater than the upper.
 pub fn points_check(p: SetPoints) -> u8
     ensures { λ r. ⌜ r ≡ pointsCheck p ⌝ }
 {
     match p {
         SetPoints::Neither => 0,
-        SetPoints::Lower(_) => 8,
+        SetPoints::Lower(l) => lower_check(l),
         SetPoints::Upper(u) => upper_check(u),
         SetPoints::Both(l, u) => both_check(l, u),
+    }
+}
+
+fn lower_check(l: f64) -> u8
+    ensures { λ r. ⌜ r ≡ pointsCheck (SetPoints.Lower l) ⌝ }
+{
+    if numeric::compare::is_finite(l) {
+        8
+    } else {
+        12
     }
 }
 
 fn upper_check(u: f64) -> u8
     ensures { λ r. ⌜ r ≡ pointsCheck (SetPoints.Upper u) ⌝ }
 {
-    if numeric::compare::is_finite(u) { 0 } else { 8 }
+    if numeric::compare::is_finite(u) {
+        0
+    } else {
+        12
+    }
 }
 
 fn both_check(l: f64, u: f64) -> u8
     ensures { λ r. ⌜ r ≡ pointsCheck (SetPoints.Both l u) ⌝ }
 {
     if !numeric::compare::is_finite(l) {
-        return 8;
+        return 12;
     }
     if !numeric::compare::is_finite(u) {
-        return 8;
+        return 12;
     }
-    if l > u { 8 } else { 0 }
+    if l > u { 13 } else { 0 }
 }
 
-// 8, of the first n heaters' set points.
+// 12, 8 or 13, of the first n heaters' set points: the first faulty heater, as given, decides.
 pub fn settings_check(n: usize, present: &[bool; TWO_EACH], points: &[f64; TWO_EACH]) -> u8
     requires { ⌜ n ≤ maxHeaters ⌝ }
     ensures { λ r. ⌜ r ≡ settingsCheck n (settingsIn (now (present .entry)) (now (points .entry))) ⌝ }

@@ -1,3 +1,3 @@
-// Checks 1 to 8 of make and of a step, and the first of them that does not pass.
+// The checks of make and of a step, and the first of them that does not pass.
 pub mod checks;
 pub mod refusals;

@@ -1,4 +1,4 @@
-// What make and a step are refused for before they work: the first of the checks 1 to 8 that does not pass, and 0 where all pass.
+// What make and a step are refused for before they work: the number of the first check that does not pass, and 0 where all pass.
 // A check more is a line more in the function that goes through them.
 ghost use mathlib.Core.Path.{_≡_};
 ghost use mathlib.Core.Bool.{_&&_};
@@ -64,7 +64,7 @@ fn tank_refusal(
     crate::checks::places_check(n, heaters, thermostats)
 }
 
-// 6 to 8, in order, of any tank of n heaters.
+// 6, 7, and then the set points, of any tank of n heaters.
 fn step_refusal(
     n: usize,
     feed: f64,

@@ -1,14 +1,16 @@
 //! Cases made by hand: document 01's figures, the smallest input for each refusal, and for each place where a
-//! reading shows in a last bit or the sign of a zero.
+//! reading shows in a last bit or the sign of a zero; and the figures of document 02's requests.
 
 mod damage;
 mod mixes;
 mod numbers;
 mod of_01;
+mod of_02;
 mod readings;
 mod refusals;
 
 pub use mixes::mixes;
+pub use of_02::of_02;
 
 use crate::job::{Step, Writer};
 use original::probe::{Heater, Making, SetPoints};
@@ -16,11 +18,11 @@ use original::probe::{Heater, Making, SetPoints};
 pub struct Case {
     pub name: String,
     pub bytes: Vec<u8>,
-    /// What 01 itself prints for this case, where it says so.
+    /// What the document itself says of this case, where it does.
     pub figure: Option<Figure>,
 }
 
-/// A part of an answer that document 01 states: line, part of the line, value.
+/// A part of an answer that document 01 or 02 states: line, part of the line, value.
 pub struct Figure(pub &'static [(usize, usize, Value)]);
 
 pub enum Value {

@@ -76,10 +76,10 @@ pub fn refusals() -> Vec<Case> {
                 .heater(heater(1.0, 0.0))
                 .step(nan, &[], &[(Some(1.0), None)]),
         ),
-        case("8: lower not-a-number", with_set(both(nan, 60.0))),
-        case("8: upper infinite", with_set((None, Some(f64::INFINITY)))),
+        case("12: lower not-a-number", with_set(both(nan, 60.0))),
+        case("12: upper infinite", with_set((None, Some(f64::INFINITY)))),
         case("8: lower alone", with_set((Some(50.0), None))),
-        case("8: lower above upper", with_set(both(50.0, 49.0))),
+        case("13: lower above upper", with_set(both(50.0, 49.0))),
         case("upper alone", with_set((None, Some(60.0)))),
         case(
             "9: a layer that loses its heat capacity",

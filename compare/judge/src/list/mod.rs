@@ -113,6 +113,12 @@ pub fn all(folder: &Path, each: u64) -> (Vec<Entry>, Vec<Mixing>, Vec<Entry>) {
             }
         }
     }
+    // Last, so that what a request adds moves nothing that was there.
+    jobs.extend(
+        figures::of_02()
+            .into_iter()
+            .map(|case| entry(case.name, false, case.bytes)),
+    );
     for seed in 1_000_000..1_000_000 + 8 * each {
         let (volume, layers) = shapes::mix(seed);
         mixes.push(mixing(format!("mix {seed}"), volume, layers));

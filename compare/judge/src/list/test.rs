@@ -73,7 +73,7 @@ fn gate_test(list: &[Stored], crates: &Path) -> bool {
     fine
 }
 
-/// The list must say what the judge says now, whole and in parts, and 01's figures; and each wrong stand-in
+/// The list must say what the judge says now, whole and in parts, and 01's and 02's figures; and each wrong stand-in
 /// must change some answer.
 pub fn self_test(folder: &Path, crates: &Path) -> bool {
     let list = stored(folder);
@@ -95,7 +95,7 @@ pub fn self_test(folder: &Path, crates: &Path) -> bool {
     );
 
     let mut figures = 0;
-    for case in figures::jobs() {
+    for case in figures::jobs().into_iter().chain(figures::of_02()) {
         let Some(figure) = case.figure else { continue };
         let lines = oracle::answer(&case.bytes, false, false);
         for (line, part, value) in figure.0 {
@@ -107,7 +107,7 @@ pub fn self_test(folder: &Path, crates: &Path) -> bool {
             figures += 1;
             if got != Some(&*expected) {
                 println!(
-                    "{}: line {line} part {part}: 01 says {expected}, the judge {got:?}",
+                    "{}: line {line} part {part}: the document says {expected}, the judge {got:?}",
                     case.name
                 );
                 fine = false;
@@ -130,7 +130,7 @@ pub fn self_test(folder: &Path, crates: &Path) -> bool {
             fine = false;
         }
     }
-    println!("{figures} figures of 01 and docs/JOB_FORMAT.md are the judge's: {fine}");
+    println!("{figures} figures of 01, 02 and docs/JOB_FORMAT.md are the judge's: {fine}");
 
     for (kind, name) in [
         (recorder::PLAIN_SUM, "a plain sum for Sum2"),

@@ -1,4 +1,4 @@
--- `both_check` meets its contract (01, The four calls: 8).
+-- `both_check` meets its contract (02, R-1: 12 and 13).
 use mathlib.Core.Path.{sym, _∙_}
 use borrow.Author.Tests.{not-true, not-false}
 use Rattle.tank_model.specs.Checks.{pointsCheck}

@@ -1,4 +1,4 @@
--- `settings_check` meets its contract (01, The four calls: 8). The loop's invariant: the set points before h pass.
+-- `settings_check` meets its contract (02, R-1: 12, 8 and 13). The loop's invariant: the set points before h pass.
 use mathlib.Core.Path.{ap, _∙_}
 use Prim.Native.Nat.{ℕ, _-_}
 use lib.ListN.{getD}

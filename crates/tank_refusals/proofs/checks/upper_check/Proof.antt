@@ -1,4 +1,4 @@
--- `upper_check` meets its contract (01, The four calls: 8).
+-- `upper_check` meets its contract (02, R-1: 12).
 use Rattle.tank_model.specs.Checks.{pointsCheck}
 use borrow.Author.Needs.{needs}
 use Rattle.tank_refusals.proofs.checks.upper_check.Statement.{statement}
