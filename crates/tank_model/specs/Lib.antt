@@ -13,3 +13,4 @@ pub mod Refusals
 pub mod Course
 pub mod HistoryDemand
 pub mod EightSplit
+pub mod SetPointCases
