@@ -1,9 +1,10 @@
 -- Proves that a position at least 0 and below 1 has a layer (01, Tank): it is below the number of layers, and is the whole part of the rounded product,
--- which is what the Rust's cast gives. For 1 to 64 layers, and for both zeros.
+-- which is what the Rust's cast gives. For 1 to 64 layers, and for both zeros. And that the layer of position 1 is the top one (02, R-2), for every number of
+-- layers, and for 1 to 64 the layer of the largest double below 1 too.
 -- A double below 1 is at most 1 - 2^-53; rounding keeps order; and the product of that number with each count of layers is below the count, by computation.
 use mathlib.Core.Bool.{Bool, true, false, not, _&&_, cond, true≢false}
 use mathlib.Core.Path.{_≡_, refl, sym, _∙_, subst}
-use Prim.Native.Nat.{ℕ, zero, suc, _+_, _*_, _%_, _^_, _≤_, _<_}
+use Prim.Native.Nat.{ℕ, zero, suc, _+_, _-_, _*_, _%_, _^_, _≤_, _<_}
 use native.Mathlib.Nat.{mul-pos, div-lt-iff-lt-mul, mul-lt-mul-of-pos-right, lt-of-mul-lt-mul-right, lt-of-le-of-lt, mul-right-comm, zero-mul}
 use native.Mathlib.Omega.{arith}
 use lib.Dec.{T, ltb, leb, eqb, eqb→eq, ltb→lt, lt→ltb}
@@ -13,10 +14,10 @@ use lib.Ieee.{Float, nan, inf, fin, Format, binary64, unlike, prec, emax, low, u
 use lib.Ieee.Fits.{up-pos, down-pos, and-l, and-r, round-is}
 use lib.Ieee.Scale.{round-same}
 use lib.Ieee.Positive.{num, den, positive, den-pos, own-value, cross→le, mul-at, mul-mono}
-use Rattle.numeric.specs.Double.{whole, _⊛_, zero-f, one-f}
+use Rattle.numeric.specs.Double.{whole, _⊛_, zero-f, one-f, just-below-one}
 use Rattle.numeric.specs.Holds.{holds, holds-at}
 use Rattle.numeric.specs.Whole.{wholeBelow, layerOf}
-use Rattle.numeric.proofs.WholePart.{at-most, whole-below-bound, whole-cast}
+use Rattle.numeric.proofs.WholePart.{at-most, whole-below-bound, whole-cast, whole-of-one}
 
 -- the largest double below 1: 1 - 2^-53
 abbrev largest : Float
@@ -44,6 +45,13 @@ all-cut-zero : holds cut-zero 64 1 ≡ true
 unfolding holds wholeBelow ofInt round le
 all-cut-zero = refl
 
+abbrev in-the-top : ℕ → Bool
+in-the-top n = eqb (layerOf just-below-one n) (n - 1)
+
+all-in-the-top : holds in-the-top 64 1 ≡ true
+unfolding holds layerOf wholeBelow mul ofInt ofBits round le
+all-in-the-top = refl
+
 -- a position above zero and below 1 is at most the largest double below 1
 room : (a d : ℕ) → a < 9007199254740992 → a < d → a * 9007199254740992 ≤ 9007199254740991 * d
 room a d h l = omega arith
@@ -63,6 +71,19 @@ at-most-largest m (negsuc k) f h =
     let small : suc m < 9007199254740992 = ltb→lt (suc m) 9007199254740992 (second (eqb (suc m % 2) 1) (ltb (suc m) (2 ^ 53)) (leb (2 ^ suc k) (2 ^ 1074)) (ltb (suc m * 1) (2 ^ 1024 * 2 ^ suc k)) f) in
     let b : suc m * 1 * 1 < 1 * 1 * 2 ^ suc k = ltb→lt _ _ (subst T (sym h) tt) in
     cross→le (fin false (suc m) (negsuc k)) largest (lt→ltb 0 (suc m) (omega arith)) tt (room (suc m * 1) (2 ^ suc k) (omega arith) (omega arith))
+
+-- `just-below-one` is below 1, and no double above zero is between the two
+pub just-below : lt just-below-one one-f ≡ true
+unfolding lt ofBits
+just-below = refl
+
+pub nothing-between : (x : Float) → T (fits binary64 x) → T (positive x) → lt x one-f ≡ true → T (le x just-below-one)
+unfolding ofBits
+nothing-between nan f p h = absurd p
+nothing-between (inf s) f p h = absurd p
+nothing-between (fin true m e) f p h = absurd p
+nothing-between (fin false zero e) f p h = absurd p
+nothing-between (fin false (suc m) e) f p h = at-most-largest m e f h
 
 -- a rounded number with the sign of plus is no number below zero
 abbrev plus : Float → Bool
@@ -171,3 +192,14 @@ module _ (layers : ℕ) (some : 1 ≤ layers) (most : layers ≤ 64) where
   pub layer-cast : (position : Float) → T (fits binary64 position) → le zero-f position ≡ true → lt position one-f ≡ true → layerOf position layers ≡ toUnsigned 64 (position ⊛ whole layers)
   unfolding layerOf
   layer-cast position f a b = cast-product position f a b
+
+-- the layer of position 1 is the top one, for every number of layers
+pub layer-of-one : (layers : ℕ) → 1 ≤ layers → layers ≤ 2 ^ 53 → layerOf one-f layers ≡ layers - 1
+unfolding layerOf
+layer-of-one zero some most = absurd (omega arith)
+layer-of-one (suc k) some most = whole-of-one k most ∙ omega arith
+
+-- and so is that of the largest double below 1: what takes its place where the Rust has no layer for 1
+pub layer-just-below : (layers : ℕ) → 1 ≤ layers → layers ≤ 64 → layerOf just-below-one layers ≡ layerOf one-f layers
+layer-just-below layers some most =
+    eqb→eq _ _ (subst T (sym (holds-at in-the-top 64 1 all-in-the-top layers some (omega arith))) tt) ∙ sym (layer-of-one layers some (omega arith))

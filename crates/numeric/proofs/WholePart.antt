@@ -1,5 +1,6 @@
 -- Proves that the cut by comparison is the whole part (01, Tank; Forms Rattle lacks): of a finite number that is not negative, `wholeBelow n` is
--- its whole part wherever that is below n, and so what a cast to an unsigned integer gives. And what a search for it from the lowest up cites.
+-- its whole part wherever that is below n, and so what a cast to an unsigned integer gives; of n itself it is n - 1. And what a search for it from the lowest
+-- up cites.
 use mathlib.Core.Bool.{Bool, true, false, cond, _&&_, _||_, true≢false}
 use mathlib.Core.Logic.{_⊎_, inl, inr}
 use mathlib.Core.Path.{_≡_, refl, sym, _∙_, subst}
@@ -10,14 +11,14 @@ use borrow.Author.Tests.{ne-eqb}
 use lib.Dec.{T, ltb, eqb, eqb→eq, ltb→lt}
 use lib.IntN.{ℤ}
 use lib.Pow.{pow-pos}
-use lib.Ieee.{Float, nan, inf, fin, binary64, up, down, round, sum, add, ofInt, ofBits, le, toUnsigned}
+use lib.Ieee.{Float, nan, inf, fin, binary64, up, down, round, sum, add, mul, ofInt, ofBits, le, toUnsigned}
 use lib.Ieee.Bits.{is-true}
 use lib.Ieee.Fits.{down-pos}
 use lib.Ieee.Scale.{round-same}
 use lib.Ieee.Exact.{HasValue}
 use lib.Ieee.Order.{transfer, le-of-values}
 use lib.Ieee.Back.{round-whole}
-use Rattle.numeric.specs.Double.{whole, _⊕_, one-f}
+use Rattle.numeric.specs.Double.{whole, _⊕_, _⊛_, one-f}
 use Rattle.numeric.specs.Whole.{wholeBelow}
 
 whole-value : (k : ℕ) → k ≤ 2 ^ 53 → HasValue (whole k) false k 1
@@ -184,3 +185,25 @@ whole-next k b = plus-one (whole k) k (whole-value k b)
 pub whole-one : one-f ≡ whole (0 + 1)
 unfolding ofBits ofInt round
 whole-one = refl
+
+-- ---- the cut of a whole number by itself
+
+-- once a whole number is that number
+times-one : (y : Float) (k : ℕ) → HasValue y false k 1 → one-f ⊛ y ≡ whole k
+unfolding mul ofBits ofInt
+times-one nan k v = absurd v
+times-one (inf s) k v = absurd v
+times-one (fin true m e) k v = let z : true ≡ false = v .0 in absurd (subst T z tt)
+times-one (fin false m e) k v =
+    let q : m * up e * 1 ≡ k * down e = v .1 in
+    round-same binary64 false (1 * 1 * (m * up e)) (1 * down e) k 1 (mul-pos (pow-pos 0) (down-pos e)) (pow-pos 0) (omega arith)
+
+whole-rises : (k : ℕ) → suc k ≤ 2 ^ 53 → le (whole k) (whole (suc k)) ≡ true
+whole-rises k b =
+    is-true _
+    (le-of-values (whole k) (whole (suc k)) k 1 (suc k) 1 (pow-pos 0) (pow-pos 0) (whole-value k (omega arith)) (whole-value (suc k) b) (omega arith))
+
+-- below n the largest whole number that is at most n is the one before it
+pub whole-of-one : (k : ℕ) → suc k ≤ 2 ^ 53 → wholeBelow (suc k) (one-f ⊛ whole (suc k)) ≡ k
+unfolding wholeBelow
+whole-of-one k b = rw (times-one (whole (suc k)) (suc k) (whole-value (suc k) b), whole-rises k b)

@@ -34,6 +34,10 @@ zero-f = dbl 0x0000_0000_0000_0000
 abbrev pub one-f : Float
 one-f = dbl 0x3ff0_0000_0000_0000
 
+-- the largest double below 1: 1 - 2^-53 (proofs/Layer.antt)
+abbrev pub just-below-one : Float
+just-below-one = dbl 0x3fef_ffff_ffff_ffff
+
 abbrev pub four-f : Float
 four-f = dbl 0x4010_0000_0000_0000
 
