@@ -127,6 +127,8 @@ def see_heater(heater, absent, ninth):
             see("heater record", "%s 1" % name)
         if x == 1.0 - 2.0**-53:
             see("heater record", "%s just below 1" % name)
+        if x == 1.0 + 2.0**-52 and model.check_heater(heater):
+            see("heater record", "%s just above 1" % name)
     if ninth:
         see("heater record", "a ninth one")
         if model.check_heater(heater):
@@ -283,8 +285,18 @@ def see_accepted(tank, record, lines, refused_before):
     if order != sorted(order):
         say("heaters not given in working order")
     for heater in tank.heaters:
-        if heater.thermostat is not None and int(heater.thermostat * tank.count) != int(heater.position * tank.count):
+        layer = model.layer_of(model.thermostat_place(heater), tank.count)
+        elsewhere = layer != model.layer_of(heater.position, tank.count)
+        if elsewhere:
             say("a thermostat in another layer than its heater")
+        if heater.position == 1.0:
+            say("a heater at 1", "a heater at 1, layers %d" % tank.count)
+        if heater.thermostat == 1.0:
+            say("a thermostat at 1", "a thermostat at 1, its heater in another layer" if elsewhere else "both in the top layer")
+    if positions.count(1.0) > 1:
+        say("two heaters at 1")
+    if 1.0 in positions and 1.0 - 2.0**-53 in positions[positions.index(1.0) :]:
+        say("a heater at 1 given before one just below 1")
     begin = tank.layers
     for layers, _, _, mixing in events_of(tank, record):
         begin = layers
@@ -306,8 +318,8 @@ def see_accepted(tank, record, lines, refused_before):
             say("a flag that goes off")
         if was and upper is None:
             say("no upper set point while on")
-        place = tank.heaters[h].position if tank.heaters[h].thermostat is None else tank.heaters[h].thermostat
-        if k == 0 and was and now and (lower is None or begin[int(place * tank.count)] > lower):
+        layer = model.layer_of(model.thermostat_place(tank.heaters[h]), tank.count)
+        if k == 0 and was and now and (lower is None or begin[layer] > lower):
             say("a flag that stays on above its lower set point")
         if any(kind_of_number(double(word)) == "-0.0" for word in words[2:5]):
             say("a heater's figure of -0.0")

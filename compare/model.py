@@ -109,8 +109,16 @@ class Tank:
         return self.volume / self.count
 
 
-def whole(x):
-    return int(x)
+def layer_of(position, count):
+    """Position x layers, cut to a whole number; position exactly 1 is the top layer (02, R-2)."""
+    if position == 1.0:
+        return count - 1
+    return int(position * count)
+
+
+def thermostat_place(heater):
+    """Without a position of its own a thermostat sits with its heater."""
+    return heater.position if heater.thermostat is None else heater.thermostat
 
 
 def check_tank(tank, temperatures):
@@ -129,9 +137,9 @@ def check_tank(tank, temperatures):
 def check_heater(heater):
     if not finite(heater.rated) or heater.rated < 0.0:
         return 5
-    if not 0.0 <= heater.position < 1.0:
+    if not 0.0 <= heater.position <= 1.0:
         return 5
-    if heater.thermostat is not None and not 0.0 <= heater.thermostat < 1.0:
+    if heater.thermostat is not None and not 0.0 <= heater.thermostat <= 1.0:
         return 5
     return 0
 
@@ -283,9 +291,8 @@ class Turn:
 def turn(tank, heater, flag, begin, set_points, charged):
     lower, upper = set_points
     count = tank.count
-    heater_layer = whole(heater.position * count)
-    place = heater.position if heater.thermostat is None else heater.thermostat
-    thermostat_layer = whole(place * count)
+    heater_layer = layer_of(heater.position, count)
+    thermostat_layer = layer_of(thermostat_place(heater), count)
 
     # Switch-on
     if upper is None:

@@ -10,6 +10,12 @@ ALONE = """    if lower is not None and upper is None:
 ABOVE = """    if lower is not None and lower > upper:
         return 13
 """
+TOP = """    if position == 1.0:
+        return count - 1
+    return int(position * count)
+"""
+CUT = """    return count - 1 if position >= 1.0 else int(position * count)
+"""
 HEATERS = """    for lower, upper in set_points:
         number = check_set_points(lower, upper)
         if number:
@@ -69,8 +75,17 @@ JOB_MUTANTS = [
     ("initial temperature and layers not checked", "if not all(finite(x) for x in temperatures):", "if False:"),
     ("rated may be infinite", "if not finite(heater.rated) or heater.rated < 0.0:", "if not heater.rated >= 0.0:"),
     ("rated may be below 0", "if not finite(heater.rated) or heater.rated < 0.0:", "if not finite(heater.rated):"),
-    ("position may be below 0", "if not 0.0 <= heater.position < 1.0:", "if not heater.position < 1.0:"),
-    ("thermostat may be below 0", "not 0.0 <= heater.thermostat < 1.0", "not -INF < heater.thermostat < 1.0"),
+    ("position may be below 0", "if not 0.0 <= heater.position <= 1.0:", "if not heater.position <= 1.0:"),
+    ("thermostat may be below 0", "not 0.0 <= heater.thermostat <= 1.0", "not -INF < heater.thermostat <= 1.0"),
+    ("a heater at 1 is refused still", "if not 0.0 <= heater.position <= 1.0:", "if not 0.0 <= heater.position < 1.0:"),
+    ("a thermostat at 1 is refused still", "not 0.0 <= heater.thermostat <= 1.0", "not 0.0 <= heater.thermostat < 1.0"),
+    ("a heater above 1 is cut to the top", "if not 0.0 <= heater.position <= 1.0:", "if not 0.0 <= heater.position:", TOP, CUT),
+    ("a thermostat above 1 is cut to the top", "not 0.0 <= heater.thermostat <= 1.0", "not 0.0 <= heater.thermostat", TOP, CUT),
+    ("position 1 is the bottom layer", TOP, TOP.replace("count - 1", "0")),
+    ("position 1 is the layer below the top", TOP, TOP.replace("count - 1", "max(count - 2, 0)")),
+    ("a thermostat at 1 sits with its heater", "return heater.position if heater.thermostat is None else",
+     "return heater.position if heater.thermostat in (None, 1.0) else"),
+    ("a heater at 1 works with those just below it", "key=lambda i: tank.heaters[i].position)", "key=lambda i: min(tank.heaters[i].position, 1.0 - 2.0**-53))"),
     ("feed not checked", CHECKED, "if any(not finite(v) or v < 0.0 for v in volumes):"),
     ("volumes may be infinite", CHECKED, "if not finite(feed) or any(not v >= 0.0 for v in volumes):"),
     ("volumes may be below 0", CHECKED, "if not finite(feed) or any(not finite(v) for v in volumes):"),

@@ -1,4 +1,4 @@
-"""The refusals, in the words of document 01, and of 02 for set points; and of these whose they are."""
+"""The refusals, in the words of document 01, and of 02 for positions and set points; and of these whose they are."""
 
 import math
 
@@ -11,7 +11,7 @@ WORDS = {
     4: "Standby loss (kWh per 24 h), initial, ambient or a stored layer temperature is not finite, "
     "or the standby loss is below zero.",
     5: "A rated power (kW) is not finite or is below zero, "
-    "or a heater or thermostat position is not at least 0 and below 1.",
+    "or a heater or thermostat position is not at least 0, or is above 1.",
     6: "A step has more than 64 draw events, or not one set-point entry for each heater.",
     7: "The feed temperature, or an event's volume, is not finite, or the volume is below zero.",
     8: "The lower set point comes without the upper.",

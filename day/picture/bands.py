@@ -56,10 +56,13 @@ def fittings(frame, top, height):
     out, scale = [], Scale(0.0, 1.0, top + height, top)
     for index, heater in enumerate(frame.day.heaters):
         x = KEY + 7 + index * 18
-        out.append(words(x, top - 6, "h%d" % index, 11, text_anchor="middle", fill=INK))
+        thermostat = heater.position if heater.thermostat is None else heater.thermostat
+        # Above the tank, and clear of what sits in its lid.
+        name = min(top - 6, scale(max(heater.position, thermostat)) - 9)
+        out.append(words(x, name, "h%d" % index, 11, text_anchor="middle", fill=INK))
         out.append(line(x, top, x, top + height, stroke=PALE, stroke_width=2))
         out.append(box(x - 6, scale(heater.position) - 6, 12, 12, fill=HEATERS[index % len(HEATERS)]))
-        out.append(circle(x, scale(heater.position if heater.thermostat is None else heater.thermostat)))
+        out.append(circle(x, scale(thermostat)))
     if frame.day.heaters:
         y = key_top(top + height)
         out += [box(KEY + 1, y - 10, 11, 11, fill=GREY), words(KEY + 18, y, "heater", 12, fill=INK)]

@@ -85,7 +85,7 @@ def begins(frame, scale):
 
 
 def thermostat_layers(day):
-    """The heaters that look at a layer, by layer (01, Tank: position times layers, cut to a whole number)."""
+    """The heaters that look at a layer, by layer (01, Tank: position times layers, cut to a whole number; 1 is the top, 02, R-2)."""
     found = {}
     for index, heater in enumerate(day.heaters):
         position = heater.position if heater.thermostat is None else heater.thermostat

@@ -33,8 +33,7 @@ def turn_line(tank, heater, flag, layers, points, done):
     """`done` is what the turn came to, or None where its mixing was refused: the turn then ended where it began."""
     lower, upper = points
     ran = flag
-    place = heater.position if heater.thermostat is None else heater.thermostat
-    layer = model.whole(place * tank.count)
+    layer = model.layer_of(model.thermostat_place(heater), tank.count)
     if upper is None:
         ran = False
     elif lower is not None and at_or_under(layers[layer], lower):

@@ -161,12 +161,16 @@ ENDINGS = [
     (2, 10, tank() + ONE * 9 + "step feed 10 C" + "".join(", heater %d none" % i for i in range(9)) + "\n"),
     (3, 2, "# words\n" + tank().replace("150", "nan")),
     (4, 1, tank(initial="inf")),
-    (5, 3, tank() + "\nheater rated power 1 kW, position 1 of height\n"),
+    (5, 3, tank() + "\nheater rated power 1 kW, position 1.0000000000000002 of height\n"),
 ]
 
 
 # Of the list of refusals in document 01: its eleven lines, "1. The layers are ..." first.
 LIST_SHA256 = "0d1fb9779eafd209bc0e171d75ec33141fba4c4e2391e5d98dcfb8e7f481b072"
+
+
+# 5 as it stands there, which since document 02 (R-2) begins above 1.
+FIVE = "is not at least 0 and below 1.", "is not at least 0, or is above 1."
 
 
 # 8 as it stands there, which document 02 (R-1) split in three.
@@ -175,7 +179,8 @@ EIGHT = "A present set point is not finite, or the lower one comes without the u
 
 class Refused(unittest.TestCase):
     def test_words_are_those_of_01(self):
-        of_01 = {**{number: words for number, words in refusals.WORDS.items() if number < 12}, 8: EIGHT}
+        five = refusals.WORDS[5].replace(*reversed(FIVE))
+        of_01 = {**{number: words for number, words in refusals.WORDS.items() if number < 12}, 5: five, 8: EIGHT}
         lines = "\n".join("%d. %s" % pair for pair in sorted(of_01.items()))
         self.assertEqual(hashlib.sha256(lines.encode()).hexdigest(), LIST_SHA256)
 

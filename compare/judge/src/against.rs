@@ -10,6 +10,7 @@ use std::time::Instant;
 pub fn shapes_of(names: &str) -> Vec<&'static str> {
     let every: Vec<&str> = [
         shapes::JOB_SHAPES,
+        shapes::REQUEST_SHAPES,
         shapes::LARGE_SHAPES,
         &[shapes::PUT],
         shapes::CALL_SHAPES,

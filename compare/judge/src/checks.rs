@@ -1,5 +1,5 @@
-//! 01's refusals 1 to 7, and 12, 8 and 13 of 02, as functions of what a call is given. Each answers the number,
-//! or 0.
+//! 01's refusals 1 to 7, of which 5 begins above 1 (02, R-2), and 12, 8 and 13 of 02, as functions of what a call
+//! is given. Each answers the number, or 0.
 
 use crate::job::{Step, MOST_EVENTS, MOST_HEATERS, MOST_LAYERS};
 use original::probe::{Heater, Making, SetPoints};
@@ -27,9 +27,9 @@ pub fn check_tank(making: &Making, temperatures: &[f64]) -> u8 {
     0
 }
 
-/// 5 of 01.
+/// 5 of 01; position exactly 1 is the top layer (02, R-2).
 pub fn check_heater(heater: &Heater) -> u8 {
-    let place = |x: f64| (0.0..1.0).contains(&x);
+    let place = |x: f64| (0.0..=1.0).contains(&x);
     if !heater.rated.is_finite() || heater.rated < 0.0 {
         return 5;
     }

@@ -73,6 +73,14 @@ impl Maker {
     }
 }
 
+/// 1 kW at the bottom, and its thermostat at a position.
+fn with_thermostat(position: f64) -> Heater {
+    Heater {
+        thermostat: Some(position),
+        ..heater(1.0, 0.0)
+    }
+}
+
 pub fn all() -> Vec<Difference> {
     use Rust::*;
     let nan = f64::NAN;
@@ -126,27 +134,19 @@ pub fn all() -> Vec<Difference> {
             .tank(|m| m.layers = 2)
             .heater(heater(nan, 0.0), both(50.0, 60.0)),
         differ("rated power infinite, on", 5, GoesOn).heater(heater(inf, 0.0), both(50.0, 60.0)),
-        differ("position 1", 5, Panics).heater(heater(1.0, 1.0), UNSET),
+        differ("position 1", 0, Panics).heater(heater(1.0, 1.0), UNSET),
+        differ("position 1 + 2^-52", 5, Panics).heater(heater(1.0, 1.0 + f64::EPSILON), UNSET),
         differ("position -0.5, two layers, on", 5, GoesOn)
             .tank(|m| (m.layers, m.volume) = (2, 32.0))
             .heater(heater(1.0, -0.5), both(50.0, 60.0)),
         differ("position not-a-number, two layers, on", 5, GoesOn)
             .tank(|m| (m.layers, m.volume) = (2, 32.0))
             .heater(heater(1.0, nan), both(50.0, 60.0)),
-        differ("thermostat at 1, set points", 5, Panics).heater(
-            Heater {
-                thermostat: Some(1.0),
-                ..heater(1.0, 0.0)
-            },
-            both(50.0, 60.0),
-        ),
-        differ("thermostat at 1, no set points", 5, GoesOn).heater(
-            Heater {
-                thermostat: Some(1.0),
-                ..heater(1.0, 0.0)
-            },
-            UNSET,
-        ),
+        differ("thermostat at 1, set points", 0, Panics).heater(with_thermostat(1.0), both(50.0, 60.0)),
+        differ("thermostat at 1 + 2^-52, set points", 5, Panics)
+            .heater(with_thermostat(1.0 + f64::EPSILON), both(50.0, 60.0)),
+        differ("thermostat at 1 + 2^-52, no set points", 5, GoesOn)
+            .heater(with_thermostat(1.0 + f64::EPSILON), UNSET),
         differ("65 events", 6, GoesOn).draws(12.0, &[0.0; 65]),
         differ("feed not-a-number, nothing drawn", 7, GoesOn).draws(nan, &[]),
         differ("feed not-a-number, a draw", 7, GoesOn).draws(nan, &[1.0]),
@@ -265,7 +265,29 @@ pub fn run() -> bool {
         let mark = if as_written { "" } else { "  <- NOT AS WRITTEN" };
         println!("{number:>2} {rust:?}: {}: {words}{mark}", case.name);
     }
-    fine && half_stepped()
+    fine && half_stepped() && lid_unread()
+}
+
+/// A thermostat at 1 without an upper set point: the Rust never reads its layer, goes on, and answers as here.
+fn lid_unread() -> bool {
+    let (making, heaters) = (plain(2, 20.0), [with_thermostat(1.0)]);
+    let direct = Tank::new(&making, &heaters)
+        .and_then(|tank| tank.step(12.0, &[4.0], &[UNSET]))
+        .expect("it goes on");
+    let step = Step {
+        feed: 12.0,
+        volumes: vec![4.0],
+        set_points: vec![UNSET],
+    };
+    let mut judged = Judged::new(&making, &heaters).expect("a good tank is made");
+    let same = match judged.step(&step) {
+        Outcome::Accepted(here) => format!("{here:?}") == format!("{direct:?}"),
+        _ => false,
+    };
+    println!(
+        "a thermostat at 1, no set points: the Rust goes on, and answers as with the double below 1: {same}"
+    );
+    same
 }
 
 /// An error of the Rust comes after the events: its tank is not as it was.

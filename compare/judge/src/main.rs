@@ -4,6 +4,7 @@ mod checks;
 mod damage;
 mod differences;
 mod figures;
+mod handed;
 mod job;
 mod lent;
 mod list;
@@ -41,7 +42,10 @@ judge speed N                                 jobs a second, shape by shape
 
 /// Steps worked whole and in parts must give the same lines.
 fn parts(from: u64, count: u64) -> bool {
-    for shape in shapes::JOB_SHAPES.iter().chain(&[shapes::PUT]) {
+    for shape in [shapes::JOB_SHAPES, shapes::REQUEST_SHAPES, &[shapes::PUT]]
+        .concat()
+        .iter()
+    {
         let put = *shape == shapes::PUT;
         for seed in from..from + count {
             let job = shapes::job(shape, seed);
@@ -56,9 +60,14 @@ fn parts(from: u64, count: u64) -> bool {
 }
 
 fn speed(count: u64) {
-    for shape in [shapes::JOB_SHAPES, shapes::LARGE_SHAPES, &[shapes::PUT]]
-        .concat()
-        .iter()
+    for shape in [
+        shapes::JOB_SHAPES,
+        shapes::REQUEST_SHAPES,
+        shapes::LARGE_SHAPES,
+        &[shapes::PUT],
+    ]
+    .concat()
+    .iter()
     {
         let count = if shapes::LARGE_SHAPES.contains(shape) {
             count / 50 + 1

@@ -4,8 +4,9 @@
 //! `checks.rs`, 9 and 10 are found below, and the tank is put back as it was.
 
 use crate::checks::{check_heater, check_step, check_tank, finite_above_zero};
+use crate::handed::Handed;
 use crate::job::{self, Before, Record, Step, MOST_BYTES, MOST_HEATERS, MOST_LAYERS};
-use original::probe::{self, Failed, Heater, Making, SetPoints, State, Stepped, Tank};
+use original::probe::{self, Failed, Heater, Making, SetPoints, State, Stepped};
 use recorder::{most_rounds, Turn};
 use std::fmt::Write;
 
@@ -23,9 +24,9 @@ pub enum Outcome {
 pub struct Judged {
     making: Making,
     heaters: Vec<Heater>,
-    tank: Tank,
+    tank: Handed,
     /// The same tank with 0, 1, ... heaters, made when first asked for.
-    fewer: Vec<Option<Tank>>,
+    fewer: Vec<Option<Handed>>,
     /// Always work a step in parts, also where the whole shows that nothing is amiss.
     pub in_parts: bool,
 }
@@ -43,7 +44,7 @@ impl Judged {
         Ok(Judged {
             making: *making,
             heaters: heaters.to_vec(),
-            tank: Tank::new(making, heaters)?,
+            tank: Handed::new(making, heaters)?,
             fewer: (0..=heaters.len()).map(|_| None).collect(),
             in_parts: false,
         })
@@ -158,9 +159,9 @@ impl Judged {
         }
     }
 
-    fn fewer(&mut self, count: usize) -> Result<&Tank, Failed> {
+    fn fewer(&mut self, count: usize) -> Result<&Handed, Failed> {
         if self.fewer[count].is_none() {
-            let mut tank = Tank::new(&self.making, &self.heaters)?;
+            let mut tank = Handed::new(&self.making, &self.heaters)?;
             tank.keep_heaters(count);
             self.fewer[count] = Some(tank);
         }
@@ -172,7 +173,8 @@ impl Judged {
         for (turn, index) in stepped.turns.iter().zip(self.order()) {
             let heater = &self.heaters[*index];
             let place = heater.thermostat.unwrap_or(heater.position);
-            let layer = stepped.state.layers[(place * self.making.layers as f64) as usize];
+            let top = self.making.layers - 1;
+            let layer = stepped.state.layers[((place * self.making.layers as f64) as usize).min(top)];
             let reached = set_points[*index].1.is_none_or(|upper| {
                 layer > upper || (layer - upper).abs() <= 1e-9 * layer.abs().max(upper.abs())
             });

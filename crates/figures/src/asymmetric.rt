@@ -18,15 +18,6 @@ fn dense(layers: usize, volume: f64, initial: f64, timestep: f64) -> TankDesign 
     m
 }
 
-fn heater_with(rated: f64, position: f64, thermostat: f64) -> Heater {
-    Heater {
-        rated,
-        position,
-        has_thermostat: true,
-        thermostat,
-    }
-}
-
 // The next step, on the tank and the report that the one before returned.
 fn after(before: Stepped, a: Step) -> Stepped {
     answers::step(before.tank, before.report, a)
@@ -79,8 +70,8 @@ fn three_heaters() {
         with_three(
             m,
             tanks::heater(800.0, 0.75),
-            heater_with(4800.0, 0.0, 0.5),
-            heater_with(2400.0, 0.25, 0.75),
+            tanks::heater_with(4800.0, 0.0, 0.5),
+            tanks::heater_with(2400.0, 0.25, 0.75),
         ),
         for_three(
             SetPoints::Both(48.0, 60.0),
@@ -104,9 +95,9 @@ fn thermostats() {
     answers::first_step(
         with_three(
             dense(4, 32.0, 50.0, 0.5),
-            heater_with(128.0, 0.5, 0.0),
-            heater_with(64.0, 0.0, 0.25),
-            heater_with(32.0, 0.75, 0.25),
+            tanks::heater_with(128.0, 0.5, 0.0),
+            tanks::heater_with(64.0, 0.0, 0.25),
+            tanks::heater_with(32.0, 0.75, 0.25),
         ),
         a,
     );
@@ -137,7 +128,10 @@ fn next(before: Stepped, points: SetPoints) -> Stepped {
 // A heater that came on, and is kept on by an upper set point alone.
 fn kept_on() -> Stepped {
     let on = answers::first_step(
-        with_one(dense(2, 32.0, 40.0, 0.5), heater_with(128.0, 0.0, 0.5)),
+        with_one(
+            dense(2, 32.0, 40.0, 0.5),
+            tanks::heater_with(128.0, 0.0, 0.5),
+        ),
         for_one(SetPoints::Both(40.0, 60.0)),
     );
     next(on, SetPoints::Upper(60.0))

@@ -49,11 +49,6 @@ fn layers(n: usize, volume: f64, heaters: usize, h: Heater) -> TankDesign {
     tanks::with_heaters(n, volume, 40.0, heaters, h)
 }
 
-// Four layers and one heater at a position, made and not stepped.
-fn made_at(position: f64) {
-    answers::make(layers(4, 64.0, 1, tanks::heater(160.0, position)));
-}
-
 // Layers and n heaters alike at a position, with set points 50 and 60.
 fn alike(layer_count: usize, volume: f64, n: usize, rated: f64, position: f64) {
     answers::first_step(
@@ -71,8 +66,8 @@ pub fn figures() {
     unset(0.0, 0.0);
     print::word(b"# Position 0.5 of 4: layer 2 is heated\n");
     alike(4, 64.0, 1, 160.0, 0.5);
-    print::word(b"# Position 1\n");
-    made_at(1.0);
+    print::word(b"# Position 1 of 4: layer 3 is heated\n");
+    alike(4, 64.0, 1, 16.0, 1.0);
     print::word(b"# Lower equal to upper\n");
     one_step(SetPoints::Both(50.0, 50.0));
 }

@@ -10,6 +10,7 @@ mod mixes;
 mod print;
 mod refusals;
 mod tanks;
+mod top_layer;
 
 fn main() {
     mixes::figures();
@@ -20,6 +21,7 @@ fn main() {
     heaters::edges();
     asymmetric::figures();
     faults::figures();
+    top_layer::figures();
     refusals::make();
     refusals::step();
     refusals::between();

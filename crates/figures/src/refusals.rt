@@ -8,6 +8,9 @@ use tank_model::Heater;
 use tank_model::Step;
 use tank_model::TankDesign;
 
+// 1 + 2^-52.
+const JUST_ABOVE_ONE: f64 = 1.0000000000000002;
+
 // Two layers at 40, and n heaters.
 fn two(n: usize, h: Heater) -> TankDesign {
     tanks::with_heaters(2, 32.0, 40.0, n, h)
@@ -48,14 +51,15 @@ fn fitted(h: Heater) {
 }
 
 fn make_heaters() {
-    print::word(b"# 5: rated power, position, thermostat position; -0 is accepted\n");
+    print::word(
+        b"# 5: rated power, position, thermostat position, just above 1 too; -0 and 1 are accepted\n",
+    );
     fitted(tanks::heater(-1.0, 0.0));
     fitted(tanks::heater(160.0, -0.5));
-    let mut h = tanks::heater(160.0, 0.0);
-    h.has_thermostat = true;
-    h.thermostat = 1.0;
-    fitted(h);
+    fitted(tanks::heater(160.0, JUST_ABOVE_ONE));
+    fitted(tanks::heater_with(160.0, 0.0, JUST_ABOVE_ONE));
     fitted(tanks::heater(-0.0, -0.0));
+    fitted(tanks::heater_with(160.0, 1.0, 1.0));
 }
 
 // So many layers at 60.
@@ -111,7 +115,7 @@ fn stored_numbers(t: StorageTank) {
 fn stored_heater(t: StorageTank) {
     let mut wrong = t;
     wrong.heaters = 1;
-    wrong.fitted[0] = tanks::heater(160.0, 1.0);
+    wrong.fitted[0] = tanks::heater(160.0, JUST_ABOVE_ONE);
     stored(wrong);
 }
 

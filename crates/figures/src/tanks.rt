@@ -19,6 +19,16 @@ pub fn heater(rated: f64, position: f64) -> Heater {
     }
 }
 
+// One whose thermostat sits elsewhere.
+pub fn heater_with(rated: f64, position: f64, thermostat: f64) -> Heater {
+    Heater {
+        rated,
+        position,
+        has_thermostat: true,
+        thermostat,
+    }
+}
+
 // All heaters are alike.
 pub fn with_heaters(
     layers: usize,

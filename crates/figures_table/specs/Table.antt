@@ -14,8 +14,8 @@ use Rattle.tank_model.specs.declared.Step.{Step}
 use Rattle.tank_model.specs.declared.HeaterLine.{HeaterLine}
 use Rattle.tank_model.specs.Members.{All}
 use Rattle.storage_tank.specs.declared.Stepped.{Stepped}
-use Rattle.figures_table.specs.Figure.{Figure, _and_, steps, make, layer, mix, Holds, nearest, minus, heater, design, asks}
-use Rattle.figures_table.specs.Figure.{tank, noTank, report, line, answer}
+use Rattle.figures_table.specs.Figure.{Figure, _and_, steps, layer, mix, Holds, nearest, minus, heater, design, asks}
+use Rattle.figures_table.specs.Figure.{tank, report, line, answer}
 use Rattle.figures_table.specs.Opened.{opened}
 
 -- density and specific heat 1, ambient 20: the layers, the litres, the standby loss and the step length
@@ -83,9 +83,12 @@ pair = heater (whole 1) zero-f zero-f ∷ heater (whole 1) zero-f zero-f ∷ []
 abbrev idle : ℕ → HeaterLine
 idle losses = line false zero-f zero-f (whole losses) 1
 
--- 160 kW at position 0.5
-abbrev middle : Heater
-middle = heater (whole 160) (nearest 5 10) zero-f
+-- four layers at 40 with a heater that is on, set points 50 and 60: the layers after a step, and what it supplied
+abbrev of-four : Heater → List ℕ → ℕ → Figure
+of-four h after supplied =
+    steps (design (plain 4) 40 (h ∷ [])) (tank (plain 4) (h ∷ []) (wholes (40 ∷ 40 ∷ 40 ∷ 40 ∷ [])) []) (points 50 60 ∷ [])
+    (answer 0 (tank (plain 4) (h ∷ []) (wholes after) (true ∷ []))
+    (report zero-f zero-f (whole 40) zero-f (line true (whole supplied) (whole supplied) zero-f 1 ∷ [])) ∷ [])
 
 -- ---- the table
 
@@ -113,12 +116,11 @@ starred =
     ∷ steps (design losing 36 pair) (tank losing pair (wholes (36 ∷ 36 ∷ [])) []) (asks (whole 12) [] (Neither ∷ Neither ∷ []) ∷ [])
     (answer 0 (tank losing pair (nearest 344_375 10_000 ∷ nearest 344_375 10_000 ∷ []) [])
     (report zero-f zero-f (whole 36) (nearest 375 10) (idle 50 ∷ idle 0 ∷ [])) ∷ [])
-    -- position 0.5 of 4 is layer 2; position 1 is refusal 5; lower equal to upper is accepted
+    -- position 0.5 of 4 is layer 2; position 1, which 01 refuses, is layer 3 (02, R-2); lower equal to upper is accepted
     ∷ layer (nearest 5 10) 4 2
-    ∷ steps (design (plain 4) 40 (middle ∷ [])) (tank (plain 4) (middle ∷ []) (wholes (40 ∷ 40 ∷ 40 ∷ 40 ∷ [])) []) (points 50 60 ∷ [])
-    (answer 0 (tank (plain 4) (middle ∷ []) (wholes (40 ∷ 40 ∷ 45 ∷ 45 ∷ [])) (true ∷ []))
-    (report zero-f zero-f (whole 40) zero-f (line true (whole 160) (whole 160) zero-f 1 ∷ [])) ∷ [])
-    ∷ make (design (plain 4) 60 (heater (whole 160) (whole 1) zero-f ∷ [])) (record { number = 5; tank = noTank })
+    ∷ of-four (heater (whole 160) (nearest 5 10) zero-f) (40 ∷ 40 ∷ 45 ∷ 45 ∷ []) 160
+    ∷ layer (whole 1) 4 3
+    ∷ of-four (heater (whole 16) (whole 1) zero-f) (40 ∷ 40 ∷ 40 ∷ 41 ∷ []) 16
     ∷ heated (points 45 45 ∷ []) (warmed 45 40 false 160 ∷ [])
     ∷ []
 
@@ -138,7 +140,8 @@ table =
     and (tt, refl, λ r. refl)
     and refl
     and (tt, refl, λ r. refl)
-    and (tt, refl)
+    and refl
+    and (tt, refl, λ r. refl)
     and (tt, refl, λ r. refl)
     and tt
 

@@ -45,12 +45,12 @@ all-cut-zero : holds cut-zero 64 1 ≡ true
 unfolding holds wholeBelow ofInt round le
 all-cut-zero = refl
 
-abbrev in-the-top : ℕ → Bool
-in-the-top n = eqb (layerOf just-below-one n) (n - 1)
+abbrev one-layer : ℕ → Bool
+one-layer n = eqb (layerOf just-below-one n) (layerOf one-f n)
 
-all-in-the-top : holds in-the-top 64 1 ≡ true
+all-one-layer : holds one-layer 64 1 ≡ true
 unfolding holds layerOf wholeBelow mul ofInt ofBits round le
-all-in-the-top = refl
+all-one-layer = refl
 
 -- a position above zero and below 1 is at most the largest double below 1
 room : (a d : ℕ) → a < 9007199254740992 → a < d → a * 9007199254740992 ≤ 9007199254740991 * d
@@ -201,5 +201,4 @@ layer-of-one (suc k) some most = whole-of-one k most ∙ omega arith
 
 -- and so is that of the largest double below 1: what takes its place where the Rust has no layer for 1
 pub layer-just-below : (layers : ℕ) → 1 ≤ layers → layers ≤ 64 → layerOf just-below-one layers ≡ layerOf one-f layers
-layer-just-below layers some most =
-    eqb→eq _ _ (subst T (sym (holds-at in-the-top 64 1 all-in-the-top layers some (omega arith))) tt) ∙ sym (layer-of-one layers some (omega arith))
+layer-just-below layers some most = eqb→eq _ _ (subst T (sym (holds-at one-layer 64 1 all-one-layer layers some (omega arith))) tt)

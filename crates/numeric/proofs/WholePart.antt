@@ -20,6 +20,7 @@ use lib.Ieee.Order.{transfer, le-of-values}
 use lib.Ieee.Back.{round-whole}
 use Rattle.numeric.specs.Double.{whole, _⊕_, _⊛_, one-f}
 use Rattle.numeric.specs.Whole.{wholeBelow}
+use Rattle.numeric.proofs.NotANumber.{not-at-nan}
 
 whole-value : (k : ℕ) → k ≤ 2 ^ 53 → HasValue (whole k) false k 1
 unfolding ofInt
@@ -87,12 +88,6 @@ module _ (m : ℕ) (e : ℤ) where
 and-false : (a : Bool) → (a && false) ≡ false
 and-false true = refl
 and-false false = refl
-
-not-at-nan : (y : Float) → le y nan ≡ false
-unfolding le
-not-at-nan nan = refl
-not-at-nan (inf s) = refl
-not-at-nan (fin s m e) = refl
 
 above-minus-infinity : (y : Float) (k : ℕ) → HasValue y false k 1 → le y (inf true) ≡ false
 unfolding le

@@ -10,6 +10,6 @@ unfoldable pub wholeBelow : ℕ → Float → ℕ
 wholeBelow zero x = 0
 wholeBelow (suc k) x = cond (le (whole k) x) k (wholeBelow k x)
 
--- the layer of a position: position × layers cut to a whole number
+-- the layer of a position: position × layers cut to a whole number. That of 1, whose product is the number of layers, is the top one (02, R-2; `layer-of-one`)
 unfoldable pub layerOf : Float → ℕ → ℕ
 layerOf position layers = wholeBelow layers (position ⊛ whole layers)

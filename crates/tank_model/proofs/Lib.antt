@@ -1,4 +1,4 @@
--- The laws of a step's work, the proof of what demand 3 says of a list's history, and what became of 01's refusal 8.
+-- The laws of a step's work, the proof of what demand 3 says of a list's history, and what became of 01's refusal 8 and of position 1.
 pub mod Run
 pub mod Latch
 pub mod Members
@@ -17,3 +17,4 @@ pub mod Once
 pub mod ListOnce
 pub mod HistoryDemand
 pub mod EightSplit
+pub mod TopLayer

@@ -1,4 +1,5 @@
--- Proves that the checks of make and of a step answer the number of the first of the sentences that holds (01, The four calls; 02, R-1), and 0 where none does.
+-- Proves that the checks of make and of a step answer the number of the first of the sentences that holds (01, The four calls; 02, R-1 and R-2), and 0 where
+-- none does.
 use mathlib.Core.Path.{_≡_, refl, sym, _∙_, subst}
 use mathlib.Core.Logic.{_↔_, _⊎_, inl, inr, ⊎-elim}
 use mathlib.Core.List.{List, [], _∷_, _++_}
@@ -12,6 +13,7 @@ use lib.Ieee.Scale.{finite}
 use lib.Ieee.Fits.{and-l, and-r, and-i}
 use Rattle.numeric.specs.Double.{zero-f, one-f}
 use Rattle.numeric.specs.Tabulate.{tabulate}
+use Rattle.numeric.proofs.NotANumber.{at-least-number, one-or-above}
 use Rattle.cylinder.specs.Layers.{allFinite}
 use Rattle.set_points.specs.declared.SetPoints.{SetPoints}
 use Rattle.set_points.specs.declared.SetPoints.the-variants.{Neither, Lower, Upper, Both}
@@ -23,7 +25,7 @@ use Rattle.tank_model.specs.Checks.{unless, isPositive, isPosition, heat
 use Rattle.tank_model.specs.Arguments.{setPointsOf, eventVolume}
 use Rattle.tank_model.specs.Refusals.{NotFinite, BelowZero, NotFiniteAndAboveZero, NoPosition, SomeBelow, LayerNotFinite, LayersRefused, HeatersRefused, NumbersRefused, TemperaturesRefused, PlacesRefused, CountsRefused, FeedRefused, LowerAlone, LowerAboveUpper, FirstOf, pointsSentences, settingsSentences, tankSentences, stepSentences, MakeRefusal, StepRefusal}
 use Rattle.tank_model.proofs.Order.{heater-is, heaters-many}
-use Rattle.tank_model.proofs.Sentences.{Fails, passing, failing, fails-not, fails-test, fails-as, fails-two, fails-three, fails-four, fails-some, fails-le, fails-eq, fails-finite, fails-negative}
+use Rattle.tank_model.proofs.Sentences.{itself, Fails, passing, failing, fails-not, fails-test, fails-as, fails-then, fails-two, fails-three, fails-four, fails-some, fails-le, fails-eq, fails-finite, fails-negative}
 
 -- ---- the first sentence that holds
 
@@ -98,7 +100,9 @@ positive-fails : (x : Float) → Fails (NotFiniteAndAboveZero x) (isPositive x)
 positive-fails x = fails-not (isPositive x) (two-facts (finite x) (lt zero-f x))
 
 position-fails : (x : Float) → Fails (NoPosition x) (isPosition x)
-position-fails x = fails-not (isPosition x) (two-facts (le zero-f x) (lt x one-f))
+position-fails x =
+    fails-then (fails-not (le zero-f x) itself)
+    (λ t. subst (Fails (T (lt one-f x))) (sym (one-or-above x (at-least-number zero-f x t))) (fails-test (lt one-f x)))
 
 heater-answers : (x : Placed) → FirstOf ((5, (NotFinite (x .rated) ⊎ BelowZero (x .rated)) ⊎ NoPosition (x .position) ⊎ NoPosition (x .thermostat)) ∷ []) (heaterCheck x)
 heater-answers x = answers 5 (fails-three (fails-negative (x .rated)) (position-fails (x .position)) (position-fails (x .thermostat)))

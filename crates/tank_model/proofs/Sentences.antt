@@ -65,6 +65,11 @@ fails-two (passing p) (passing q) = passing (λ x. ⊎-elim p q x)
 fails-two (passing p) (failing q) = failing (inr q)
 fails-two (failing p) q = failing (inl p)
 
+-- the second test is only asked where the first holds
+pub fails-then : {a b : Bool} {S R : Type 0} → Fails S a → (T a → Fails R b) → Fails (S ⊎ R) (a && b)
+fails-then (passing p) q = fails-two (passing p) (q tt)
+fails-then (failing p) q = failing (inl p)
+
 pub fails-three : {a b c : Bool} {S R Q : Type 0} → Fails S a → Fails R b → Fails Q c → Fails (S ⊎ R ⊎ Q) (a && b && c)
 fails-three (passing p) q r = fails-as (λ x. inr x, λ x. ⊎-elim (λ y. absurd (p y)) (λ y. y) x) (fails-two q r)
 fails-three (failing p) q r = failing (inl p)

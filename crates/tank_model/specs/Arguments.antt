@@ -51,6 +51,7 @@ positionOf m h = getD (m .fitted) h noHeater .position
 abbrev pub thermostatOf : TankDesign → ℕ → Float
 thermostatOf m h = cond (getD (m .fitted) h noHeater .«has_thermostat») (getD (m .fitted) h noHeater .thermostat) (positionOf m h)
 
+-- position × layers cut to a whole number; position 1 is the top layer (02, R-2; `heater-in-the-top`, proofs/TopLayer.antt)
 abbrev pub heaterLayer : TankDesign → ℕ → ℕ
 heaterLayer m h = layerOf (positionOf m h) (m .layers)
 

@@ -1,6 +1,6 @@
--- States the checks of make and of a step: 1 to 7 (01, The four calls), and in 8's place 12, 8 and 13 (02, R-1). Each answers its number, and 0 where it
--- passes; a check of several places answers the number of the first that does not pass; and the lists `tankChecks` and `stepChecks` are their order: the first
--- that does not pass decides.
+-- States the checks of make and of a step: 1 to 7 (01, The four calls), of which 5 begins above 1 (02, R-2), and in 8's place 12, 8 and 13 (02, R-1). Each
+-- answers its number, and 0 where it passes; a check of several places answers the number of the first that does not pass; and the lists `tankChecks` and
+-- `stepChecks` are their order: the first that does not pass decides.
 use Prim.Native.Nat.{ℕ}
 use mathlib.Core.Bool.{Bool, cond, not, _&&_}
 use mathlib.Core.List.{List, [], _∷_, _++_}
@@ -32,9 +32,9 @@ isPositive x = finite x && lt zero-f x
 abbrev pub notNegative : Float → Bool
 notNegative x = finite x && not (lt x zero-f)
 
--- at least 0 and below 1
+-- at least 0 and at most 1: exactly 1 is the top layer
 abbrev pub isPosition : Float → Bool
-isPosition x = le zero-f x && lt x one-f
+isPosition x = le zero-f x && le x one-f
 
 -- ---- the checks of a tank, or of what one is made from
 

@@ -46,7 +46,7 @@ pub record Fixed : Type 0 where
 abbrev pub heaterOf : Fixed → ℕ → Placed
 heaterOf f h = getD (f .heaters) h notPlaced
 
--- a heater with the layers that a step finds for it in a tank of n: position × layers cut to a whole number
+-- a heater with the layers that a step finds for it in a tank of n: position × layers cut to a whole number, and the top layer for 1 (02, R-2)
 abbrev pub immersed : ℕ → Placed → Immersion
 immersed n x = record {
   rated = x .rated;

@@ -1,6 +1,6 @@
--- States what make and a step are refused for before any work, in sentences over their arguments, one relation a number: 1 to 7 in 01's (The four calls), and
--- in 8's place 12, 8 and 13 in 02's (R-1). A refusal's number is that of the first sentence that holds. Nothing here cites a check; proofs/Refusals.antt proves
--- that the checks answer so.
+-- States what make and a step are refused for before any work, in sentences over their arguments, one relation a number: 1 to 7 in 01's (The four calls), of
+-- which 5 begins above 1 (02, R-2), and in 8's place 12, 8 and 13 in 02's (R-1). A refusal's number is that of the first sentence that holds. Nothing here cites
+-- a check; proofs/Refusals.antt proves that the checks answer so.
 use mathlib.Core.Path.{_≡_}
 use mathlib.Core.Logic.{_⊎_, _≢_}
 use mathlib.Core.List.{List, [], _∷_, _++_}
@@ -28,9 +28,9 @@ BelowZero x = T (lt x zero-f)
 abbrev pub NotFiniteAndAboveZero : Float → Type 0
 NotFiniteAndAboveZero x = ¬ (T (finite x) × T (lt zero-f x))
 
--- not at least 0 and below 1
+-- not at least 0, or above 1
 abbrev pub NoPosition : Float → Type 0
-NoPosition x = ¬ (T (le zero-f x) × T (lt x one-f))
+NoPosition x = ¬ (T (le zero-f x)) ⊎ T (lt one-f x)
 
 -- one of the first n places
 abbrev pub SomeBelow : ℕ → (ℕ → Type 0) → Type 0
@@ -63,7 +63,7 @@ NumbersRefused m =
 abbrev pub TemperaturesRefused : TankDesign → Type 0 → Type 0
 TemperaturesRefused m Temperature = (NotFinite (m .standby) ⊎ BelowZero (m .standby)) ⊎ NotFinite (m .ambient) ⊎ Temperature
 
--- 5. A rated power is not finite or is below zero, or a heater or thermostat position is not at least 0 and below 1.
+-- 5. A rated power is not finite or is below zero, or a heater or thermostat position is not at least 0, or is above 1.
 abbrev pub PlacesRefused : TankDesign → Type 0
 PlacesRefused m =
     SomeBelow (m .heaters)

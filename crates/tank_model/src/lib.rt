@@ -6,7 +6,7 @@ use draw_events::event::MAX_EVENTS;
 use set_points::SetPoints;
 use working_order::MAX_HEATERS;
 
-// An immersion heater: its rated power (kW), its position, 0 at the bottom of the tank and 1 at its top, and its thermostat's, where it has one of its own.
+// An immersion heater: its rated power (kW), its position, from 0 at the bottom of the tank to 1 in its lid, and its thermostat's, where it has one of its own.
 pub struct Heater {
     pub rated: f64,
     pub position: f64,

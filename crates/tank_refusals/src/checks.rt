@@ -28,11 +28,11 @@ fn is_not_negative(x: f64) -> bool
     }
 }
 
-// At least 0 and below 1.
+// At least 0 and at most 1: exactly 1 is the top layer.
 fn is_position(x: f64) -> bool
     ensures { λ r. ⌜ r ≡ isPosition x ⌝ }
 {
-    if 0.0 <= x { x < 1.0 } else { false }
+    if 0.0 <= x { x <= 1.0 } else { false }
 }
 
 // ---- of a tank, or of what one is made from

@@ -116,9 +116,19 @@ pub fn of_01() -> Vec<Case> {
             ],
         ),
         figure(
-            "01: position 1 is refusal 5",
-            Maker::tank(plain(4, 40.0)).heater(heater(32.0, 1.0)),
-            &[(0, 0, Word("E")), (0, 1, Word("5")), (0, 2, Word("64"))],
+            "01: position 1 of 4, which by 02 (R-2) is layer 3",
+            Maker::tank(plain(4, 40.0))
+                .heater(heater(16.0, 1.0))
+                .step(12.0, &[], &[both(50.0, 60.0)]),
+            &[
+                (0, 2, Word("0")),
+                (1, 1, Double(40.0)),
+                (1, 2, Double(40.0)),
+                (1, 3, Double(40.0)),
+                (1, 4, Double(41.0)),
+                (2, 1, Word("1")),
+                (2, 3, Double(16.0)),
+            ],
         ),
         figure(
             "01: lower equal to upper is accepted",

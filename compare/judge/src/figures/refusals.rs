@@ -45,7 +45,7 @@ pub fn refusals() -> Vec<Case> {
         case("5: position below 0", bad(heater(1.0, -5e-324))),
         case("5: position not-a-number", bad(heater(1.0, nan))),
         case(
-            "5: thermostat at 1",
+            "thermostat at 1",
             bad(Heater {
                 rated: 1.0,
                 position: 0.0,

@@ -16,6 +16,8 @@ pub use stored::export;
 pub use test::{replay, self_test};
 
 use crate::figures;
+use crate::handed::in_the_lid;
+use crate::job::{self, Before, Record};
 use crate::oracle::{self, Line};
 use crate::sample_day::sample_day;
 use crate::tally::Tally;
@@ -75,6 +77,19 @@ fn chosen(text: &str) -> Vec<(String, u64, String)> {
         .collect()
 }
 
+/// So many random jobs of a shape that are small enough.
+fn random(shape: &str, count: u64) -> Vec<Entry> {
+    // Seeds of the list begin where runs by hand seldom go.
+    (1_000_000..)
+        .map(|seed| {
+            let put = shape == shapes::PUT;
+            entry(format!("{shape} {seed}"), put, shapes::job(shape, seed))
+        })
+        .filter(|one| one.job.len() + words::text(&one.lines).len() <= MOST_ENTRY)
+        .take(count as usize)
+        .collect()
+}
+
 /// Everything that is stored, made anew.
 pub fn all(folder: &Path, each: u64) -> (Vec<Entry>, Vec<Mixing>, Vec<Entry>) {
     let mut jobs: Vec<Entry> = figures::jobs()
@@ -96,29 +111,22 @@ pub fn all(folder: &Path, each: u64) -> (Vec<Entry>, Vec<Mixing>, Vec<Entry>) {
         }
     }
     for shape in shapes::JOB_SHAPES.iter().chain(&[shapes::PUT]) {
-        let mut taken = 0;
-        // Seeds of the list begin where runs by hand seldom go.
-        for seed in 1_000_000.. {
-            if taken == each {
-                break;
-            }
-            let one = entry(
-                format!("{shape} {seed}"),
-                *shape == shapes::PUT,
-                shapes::job(shape, seed),
-            );
-            if one.job.len() + words::text(&one.lines).len() <= MOST_ENTRY {
-                jobs.push(one);
-                taken += 1;
-            }
+        jobs.extend(random(shape, each));
+    }
+    // Last, so that what a request adds moves nothing that was there: request by request its figures, then its shapes.
+    for (figures, shapes) in [
+        (figures::of_r_1(), &[][..]),
+        (figures::of_r_2(), shapes::REQUEST_SHAPES),
+    ] {
+        jobs.extend(
+            figures
+                .into_iter()
+                .map(|case| entry(case.name, false, case.bytes)),
+        );
+        for shape in shapes {
+            jobs.extend(random(shape, each / 2));
         }
     }
-    // Last, so that what a request adds moves nothing that was there.
-    jobs.extend(
-        figures::of_02()
-            .into_iter()
-            .map(|case| entry(case.name, false, case.bytes)),
-    );
     for seed in 1_000_000..1_000_000 + 8 * each {
         let (volume, layers) = shapes::mix(seed);
         mixes.push(mixing(format!("mix {seed}"), volume, layers));
@@ -133,6 +141,36 @@ pub fn all(folder: &Path, each: u64) -> (Vec<Entry>, Vec<Mixing>, Vec<Entry>) {
 fn framed(bytes: &[u8], out: &mut Vec<u8>) {
     out.extend_from_slice(&(bytes.len() as u32).to_le_bytes());
     out.extend_from_slice(bytes);
+}
+
+/// Whether the Rust was given the largest double below 1 for a position of 1.
+fn lowered(bytes: &[u8]) -> bool {
+    let mut before = Before {
+        put: true,
+        ..Before::default()
+    };
+    let mut at = 0;
+    while let Some((record, after)) = job::read(bytes, at, before) {
+        match record {
+            Record::Tank(making) => before.tank = Some(making.layers),
+            Record::Heater(heater) if in_the_lid(&heater) => return true,
+            Record::Heater(_) => before.heaters += 1,
+            _ => return false,
+        }
+        at = after;
+    }
+    false
+}
+
+/// What a job's lines rest on.
+fn rests(one: &Entry) -> String {
+    let answered = one.lines.iter().any(|line| !line.by_01);
+    let how = if answered && lowered(&one.job) {
+        "; 1 lowered"
+    } else {
+        ""
+    };
+    marks(&one.lines) + how
 }
 
 /// Which lines rest on 01, as `3-5,9`.
@@ -278,11 +316,7 @@ pub fn write(folder: &Path, each: u64, crates: &Path, about: &str) {
         if !one.put {
             (replayed, replayed_lines) = (replayed + 1, replayed_lines + lines);
         }
-        index.push_str(&format!(
-            "{file} {at} {lines} [{}] {}\n",
-            marks(&one.lines),
-            one.name
-        ));
+        index.push_str(&format!("{file} {at} {lines} [{}] {}\n", rests(one), one.name));
     }
     let mut parts = Parts::new("mix");
     for one in &mixes {
@@ -303,7 +337,7 @@ pub fn write(folder: &Path, each: u64, crates: &Path, about: &str) {
         let lines = one.lines.len();
         index.push_str(&format!(
             "long-{at}.job 0 {lines} [{}] {}\n",
-            marks(&one.lines),
+            rests(one),
             one.name
         ));
     }

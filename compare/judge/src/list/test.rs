@@ -95,7 +95,10 @@ pub fn self_test(folder: &Path, crates: &Path) -> bool {
     );
 
     let mut figures = 0;
-    for case in figures::jobs().into_iter().chain(figures::of_02()) {
+    for case in [figures::jobs(), figures::of_r_1(), figures::of_r_2()]
+        .into_iter()
+        .flatten()
+    {
         let Some(figure) = case.figure else { continue };
         let lines = oracle::answer(&case.bytes, false, false);
         for (line, part, value) in figure.0 {

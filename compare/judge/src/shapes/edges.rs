@@ -2,6 +2,7 @@
 
 use super::days::{day_heater, day_step, day_tank};
 use super::numbers::{absent, near, rising};
+use crate::handed::JUST_BELOW_ONE;
 use crate::job::{Step, Writer};
 use crate::rng::Rng;
 use original::probe::{Heater, Making};
@@ -14,9 +15,9 @@ pub fn edges(rng: &mut Rng, writer: &mut Writer) {
         tank.volume = (layers * 16) as f64;
     }
     writer.tank(&tank);
-    let below_one = f64::from_bits(0x3fef_ffff_ffff_ffff);
-    let places = [0.0, -0.0, below_one, 0.5, 0.5, 0.25, 5e-324];
-    let bad_places = [1.0, -5e-324, 1.5, f64::NAN];
+    let places = [0.0, -0.0, JUST_BELOW_ONE, 0.5, 0.5, 0.25, 5e-324];
+    // The first is the top layer (02, R-2), and the others are refused.
+    let rare_places = [1.0, -5e-324, 1.5, f64::NAN];
     for _ in 0..heaters {
         let mut heater = day_heater(rng);
         heater.position = *rng.pick(&places);
@@ -25,10 +26,10 @@ pub fn edges(rng: &mut Rng, writer: &mut Writer) {
             _ => Some(*rng.pick(&places)),
         };
         if rng.one_in(40) {
-            heater.position = *rng.pick(&bad_places);
+            heater.position = *rng.pick(&rare_places);
         }
         if rng.one_in(40) {
-            heater.thermostat = Some(*rng.pick(&bad_places));
+            heater.thermostat = Some(*rng.pick(&rare_places));
         }
         if rng.one_in(6) {
             heater.rated = -0.0;
@@ -48,6 +49,41 @@ pub fn edges(rng: &mut Rng, writer: &mut Writer) {
             })
             .collect();
         writer.step(&step, absent(rng));
+    }
+}
+
+/// A position at 1 or around it, or another.
+fn high_place(rng: &mut Rng, other: f64) -> f64 {
+    match rng.below(120) {
+        0 => *rng.pick(&[1.0 + f64::EPSILON, 1.5, f64::INFINITY, f64::NAN, -1.0]),
+        1..=50 => 1.0,
+        51..=70 => JUST_BELOW_ONE,
+        71..=80 => 1.0 - f64::EPSILON,
+        81..=85 => *rng.pick(&[0.0, -0.0, 0.5]),
+        _ => other,
+    }
+}
+
+/// Ordinary days of tanks with heaters and thermostats at 1 (02, R-2), just below it, and now and then above.
+pub fn lid(rng: &mut Rng, writer: &mut Writer) {
+    let layers = *rng.pick(&[1, 1, 2, 2, 3, 4, 5, 7, 16, 31, 32]);
+    let heaters = rng.from_to(1, 8).min(rng.from_to(1, 8)) as usize;
+    let tank = day_tank(rng, layers);
+    writer.tank(&tank);
+    let absent = absent(rng);
+    for _ in 0..heaters {
+        let mut heater = day_heater(rng);
+        heater.position = high_place(rng, heater.position);
+        heater.thermostat = heater.thermostat.map(|x| high_place(rng, x));
+        writer.heater(&heater, absent);
+    }
+    for _ in 0..rng.from_to(1, 8) {
+        let feed = if rng.one_in(6) {
+            rng.between(20.0, 80.0)
+        } else {
+            rng.between(4.0, 18.0)
+        };
+        writer.step(&day_step(rng, tank.volume, heaters, feed), absent);
     }
 }
 

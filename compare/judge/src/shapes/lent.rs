@@ -3,6 +3,7 @@
 use super::calls::any_layers;
 use super::days::{day_heater, day_step, day_tank};
 use super::numbers::{near, special};
+use crate::handed::JUST_BELOW_ONE;
 use crate::job::{MOST_EVENTS, MOST_HEATERS, MOST_LAYERS};
 use crate::lent::{LentReport, LentStep, LentTank};
 use crate::rng::Rng;
@@ -107,6 +108,12 @@ fn tank(rng: &mut Rng, filling: Filling) -> LentTank {
         if let Some(place) = heater.thermostat {
             tank.heaters[2][h] = place;
         }
+        // The top layer (02, R-2), and the double just below it.
+        for places in &mut tank.heaters[1..] {
+            if rng.one_in(6) {
+                places[h] = *rng.pick(&[1.0, JUST_BELOW_ONE]);
+            }
+        }
     }
     tank
 }
@@ -172,7 +179,7 @@ fn spoil_tank(rng: &mut Rng, tank: &mut LentTank) {
         6 => tank.heaters[rng.below(3) as usize][rng.below(fitted) as usize] = odd(rng),
         _ => {
             tank.heaters[rng.from_to(1, 2) as usize][rng.below(fitted) as usize] =
-                *rng.pick(&[1.0, -5e-324, 1.5])
+                *rng.pick(&[1.0 + f64::EPSILON, -5e-324, 1.5])
         }
     }
 }

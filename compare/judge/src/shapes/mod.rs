@@ -16,7 +16,7 @@ use crate::rng::Rng;
 use calls::put;
 use damaged::damaged;
 use days::{day, hot_feed, hysteresis, long, season};
-use edges::{edges, exact, near_ones, zeros};
+use edges::{edges, exact, lid, near_ones, zeros};
 use sizes::{overflow, range, strange, tiny};
 
 /// The shapes of jobs that are small enough to be stored.
@@ -36,6 +36,9 @@ pub const JOB_SHAPES: &[&str] = &[
     "zeros",
     "range",
 ];
+
+/// Shapes that a request brought. Their stored jobs stand at the end of the list.
+pub const REQUEST_SHAPES: &[&str] = &["lid"];
 
 /// Past 65,536 bytes.
 pub const LONG: &str = "long";
@@ -88,6 +91,7 @@ pub fn job(shape: &str, seed: u64) -> Vec<u8> {
         "hysteresis" => hysteresis(rng, &mut writer),
         "zeros" => zeros(rng, &mut writer),
         "range" => range(rng, &mut writer),
+        "lid" => lid(rng, &mut writer),
         LONG => long(rng, &mut writer),
         SEASON => season(rng, &mut writer),
         PUT => put(rng, &mut writer),

@@ -1,4 +1,4 @@
--- `heater_check` meets its contract (01, The four calls: 5).
+-- `heater_check` meets its contract (01, The four calls: 5; 02, R-2).
 use mathlib.Core.Path.{sym, _∙_}
 use borrow.Author.Tests.{not-true, not-false}
 use borrow.Author.Needs.{needs}
