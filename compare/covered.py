@@ -127,7 +127,9 @@ def see_heater(heater, absent, ninth):
             see("heater record", "%s 1" % name)
         if x == 1.0 - 2.0**-53:
             see("heater record", "%s just below 1" % name)
-        if x == 1.0 + 2.0**-52 and model.check_heater(heater):
+        fixed = copy.copy(heater)
+        setattr(fixed, name, 1.0)
+        if x == 1.0 + 2.0**-52 and model.check_heater(fixed) == 0:
             see("heater record", "%s just above 1" % name)
     if ninth:
         see("heater record", "a ninth one")

@@ -134,7 +134,7 @@ MUTANTS = [
 ]
 
 # Quick ones first.
-SHAPES = ["mix", "zeros", "near", "exact", "put", "range", "overflow", "hot-feed", "hysteresis", "day", "edges", "special", "tiny"]
+SHAPES = ["mix", "zeros", "near", "exact", "put", "range", "overflow", "hot-feed", "hysteresis", "day", "edges", "special", "tiny", "lid"]
 
 
 def difference(judge, words, model):

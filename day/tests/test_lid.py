@@ -42,13 +42,18 @@ class Lid(unittest.TestCase):
         self.assertEqual(temperatures.thermostat_layers(day), {3: [0, 1]})
 
     def test_a_name_stands_clear_of_what_sits_in_the_lid(self):
-        for place, clear in (("1", 3.0), ("0.5", 6.0)):
+        """The first heater's square is there, and the second one's circle."""
+        heights = {}
+        for place in ("1", "0.5"):
             drawn = at_once("draw", "-", given=with_places(4, place).encode()).stdout.decode()
             root = ElementTree.fromstring(drawn)
             squares = [part for part in root.iter(SVG + "rect") if numbers(part, "width", "height") == [12.0, 12.0]]
             names = {part.text: part for part in root.iter(SVG + "text")}
-            (name,), (square,) = numbers(names["h0"], "y"), numbers(squares[0], "y")
-            self.assertGreaterEqual(square - name, clear)
+            heights[place] = numbers(squares[0], "y") + numbers(names["h0"], "y") + numbers(names["h1"], "y")
+        square = heights["1"][0]
+        lid = square + 6
+        self.assertEqual(heights["1"][1:], [square - 3, square - 3])
+        self.assertEqual(heights["0.5"][1:], [lid - 6, lid - 6])
 
     def test_above_one_is_refused(self):
         for place in ("position %s of height", "position 0 of height, thermostat %s of height"):

@@ -1,5 +1,5 @@
--- The starred figures of 01 (Figures to hold it against) as one table, and the theorem that each of them holds of the definitions, by computation. Beside it
--- the figure without a star, and 01's traps.
+-- The starred figures of 01 (Figures to hold it against) as one table, that of position 1 as 02 (R-2) has it, and the theorem that each of them holds of the
+-- definitions, by computation. Beside it the figure without a star, and 01's traps.
 use Prim.Native.Nat.{ℕ, _*_}
 use mathlib.Core.Path.{_≡_, refl}
 use mathlib.Core.Bool.{Bool, true, false}

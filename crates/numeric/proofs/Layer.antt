@@ -19,7 +19,7 @@ use Rattle.numeric.specs.Holds.{holds, holds-at}
 use Rattle.numeric.specs.Whole.{wholeBelow, layerOf}
 use Rattle.numeric.proofs.WholePart.{at-most, whole-below-bound, whole-cast, whole-of-one}
 
--- the largest double below 1: 1 - 2^-53
+-- the largest double below 1, written out: 1 - 2^-53
 abbrev largest : Float
 largest = fin false 9007199254740991 (negsuc 52)
 
@@ -45,12 +45,12 @@ all-cut-zero : holds cut-zero 64 1 ≡ true
 unfolding holds wholeBelow ofInt round le
 all-cut-zero = refl
 
-abbrev one-layer : ℕ → Bool
-one-layer n = eqb (layerOf just-below-one n) (layerOf one-f n)
+abbrev same-layer : ℕ → Bool
+same-layer n = eqb (layerOf just-below-one n) (layerOf one-f n)
 
-all-one-layer : holds one-layer 64 1 ≡ true
+all-same-layer : holds same-layer 64 1 ≡ true
 unfolding holds layerOf wholeBelow mul ofInt ofBits round le
-all-one-layer = refl
+all-same-layer = refl
 
 -- a position above zero and below 1 is at most the largest double below 1
 room : (a d : ℕ) → a < 9007199254740992 → a < d → a * 9007199254740992 ≤ 9007199254740991 * d
@@ -201,4 +201,4 @@ layer-of-one (suc k) some most = whole-of-one k most ∙ omega arith
 
 -- and so is that of the largest double below 1: what takes its place where the Rust has no layer for 1
 pub layer-just-below : (layers : ℕ) → 1 ≤ layers → layers ≤ 64 → layerOf just-below-one layers ≡ layerOf one-f layers
-layer-just-below layers some most = eqb→eq _ _ (subst T (sym (holds-at one-layer 64 1 all-one-layer layers some (omega arith))) tt)
+layer-just-below layers some most = eqb→eq _ _ (subst T (sym (holds-at same-layer 64 1 all-same-layer layers some (omega arith))) tt)

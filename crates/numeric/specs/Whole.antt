@@ -1,5 +1,5 @@
 -- States how a double is cut to a whole number by comparison, and the layer of a position (01, Tank; Forms Rattle lacks).
--- proofs/Layer.antt shows that this is the whole part of the rounded product, which is what the Rust's cast gives.
+-- proofs/Layer.antt shows that below 1 this is the whole part of the rounded product, which is what the Rust's cast gives.
 use mathlib.Core.Bool.{cond}
 use Prim.Native.Nat.{ℕ, zero, suc}
 use lib.Ieee.{Float, le}

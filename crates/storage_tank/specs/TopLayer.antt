@@ -1,5 +1,5 @@
 -- States what a step answers where the largest double below 1 stands in the place of positions of 1 (02, R-2): the same. tank_model/specs/TopLayer.antt says
--- which heaters are so lowered. The Rust has no layer for 1, and is compared on such a tank. Here make keeps the 1 that it was given: a case by computation.
+-- which heaters are so lowered, and why. And that make keeps the 1 that it was given: a case by computation.
 use mathlib.Core.Path.{_≡_, refl}
 use mathlib.Core.Bool.{true}
 use mathlib.Core.List.{List}

@@ -1,6 +1,7 @@
--- Proves what became of position 1 (02, R-2). `position-widened`: 5 lets 01's positions pass, and what equals 1, and nothing else. `heater-in-the-top` and
--- `thermostat-in-the-top`: in the words of demand 3, a heater or a thermostat at 1 is in the top layer. `as-just-below`: a tank with positions of 1 is
--- stepped as the same tank with the largest double below 1 in their place, refusals, events and turns, wherever the order of work is the same.
+-- Proves what became of position 1 (02, R-2). `position-widened`: 5 lets 01's positions pass, and what equals 1, and nothing else; `equals-one`: a double that
+-- equals 1 is 1. `heater-in-the-top` and `thermostat-in-the-top`: in the words of demand 3, a heater or a thermostat at 1 is in the top layer.
+-- `as-just-below`: a tank with positions of 1 is stepped as the same tank with the largest double below 1 in the place of any of them, refusals, events and
+-- turns, wherever the order of work is the same; `lowered-one`: there are such tanks.
 use mathlib.Core.Path.{_≡_, refl, sym, ap, _∙_}
 use mathlib.Core.Logic.{inl, inr}
 use mathlib.Core.List.{List, [], _∷_}
@@ -12,7 +13,7 @@ use lib.Dec.{T, eqb, leb, leb→le, eqb→eq}
 use lib.IntN.{ℤ}
 use lib.Pow.{pow-pos}
 use lib.ListN.{getD}
-use lib.Ieee.{Float, nan, inf, fin, lt, le, eq, ofBits, up, down}
+use lib.Ieee.{Float, nan, inf, fin, binary64, fits, lt, le, eq, ofBits, up, down}
 use lib.Ieee.Bits.{is-true}
 use lib.Ieee.Fits.{down-pos, and-l, and-r}
 use lib.Ieee.Order.{le-of-values}
@@ -20,6 +21,7 @@ use Rattle.numeric.specs.Double.{zero-f, one-f, just-below-one}
 use Rattle.numeric.specs.Tabulate.{tabulate}
 use Rattle.numeric.specs.Whole.{layerOf}
 use Rattle.numeric.proofs.Layer.{layer-of-one, layer-just-below}
+use Rattle.numeric.proofs.SameValue.{equal-same, same-above}
 use Rattle.mixing.specs.Limits.{maxLayers}
 use Rattle.cylinder.specs.Layers.{allFinite}
 use Rattle.draw_off.specs.declared.cold.Feed.{Feed}
@@ -67,6 +69,18 @@ position-widened x = go (le zero-f x) (lt x one-f) (eq x one-f) (not-one x)
     go : (a b c : Bool) → (a ≡ false → c ≡ false) → (a && (b || c)) ≡ ((a && b) || c)
     go true b c f = refl
     go false b c f = sym (f refl)
+
+-- and a double that equals 1 is 1
+one-fits : T (fits binary64 one-f)
+unfolding fits ofBits
+one-fits = tt
+
+one-above-zero : lt zero-f one-f ≡ true
+unfolding lt ofBits
+one-above-zero = refl
+
+pub equals-one : (x : Float) → T (fits binary64 x) → eq x one-f ≡ true → x ≡ one-f
+equals-one x f h = same-above x one-f (equal-same x one-f f one-fits h) one-above-zero
 
 -- ---- the top layer, of a heater given as h
 

@@ -1,6 +1,6 @@
 -- States what make and a step are refused for before any work, in sentences over their arguments, one relation a number: 1 to 7 in 01's (The four calls), of
--- which 5 begins above 1 (02, R-2), and in 8's place 12, 8 and 13 in 02's (R-1). A refusal's number is that of the first sentence that holds. Nothing here cites
--- a check; proofs/Refusals.antt proves that the checks answer so.
+-- which 5 begins above 1 (02, R-2), and in 8's place 12, 8 and 13 in 02's (R-1). A refusal's number is that of the first sentence that holds. Nothing here
+-- cites a check; proofs/Refusals.antt proves that the checks answer so.
 use mathlib.Core.Path.{_≡_}
 use mathlib.Core.Logic.{_⊎_, _≢_}
 use mathlib.Core.List.{List, [], _∷_, _++_}

@@ -3,7 +3,7 @@
 
 use super::Value::{Double, Word};
 use super::{both, figure, heater, plain, Case, Maker, UNSET};
-use crate::handed::JUST_BELOW_ONE;
+use crate::lowered::JUST_BELOW_ONE;
 use original::probe::{Heater, SetPoints};
 
 /// Two accepted steps with the first of these set points, and between them a step with each of the others.

@@ -16,8 +16,8 @@ pub use stored::export;
 pub use test::{replay, self_test};
 
 use crate::figures;
-use crate::handed::in_the_lid;
 use crate::job::{self, Before, Record};
+use crate::lowered::in_the_lid;
 use crate::oracle::{self, Line};
 use crate::sample_day::sample_day;
 use crate::tally::Tally;

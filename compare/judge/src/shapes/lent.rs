@@ -3,9 +3,9 @@
 use super::calls::any_layers;
 use super::days::{day_heater, day_step, day_tank};
 use super::numbers::{near, special};
-use crate::handed::JUST_BELOW_ONE;
 use crate::job::{MOST_EVENTS, MOST_HEATERS, MOST_LAYERS};
 use crate::lent::{LentReport, LentStep, LentTank};
+use crate::lowered::JUST_BELOW_ONE;
 use crate::rng::Rng;
 
 /// What stands in places that are not in use.

@@ -1,6 +1,6 @@
 //! A tank of the Rust, with heaters that it has a layer for.
 //!
-//! Position 1 is the top layer by 02, and the Rust has none for it: it panics there. Where a tank has such a
+//! Position 1 is the top layer by 02, and the Rust has none for it: it panics where it looks for one. Where a tank has such a
 //! position the Rust is given the largest double below 1 in its place, which is in the top layer too, and its heaters
 //! in working order, so that one at 1 works after one that sits just below it. Everywhere else it is given its heaters
 //! as they are, and sorts them itself.
@@ -22,7 +22,8 @@ fn lowered(position: f64) -> f64 {
     }
 }
 
-pub struct Handed {
+/// Asked as the given tank is: flags and set points in the given order.
+pub struct LoweredTank {
     tank: Tank,
     /// The given index of each heater, as the Rust was handed them.
     given: Vec<usize>,
@@ -30,8 +31,8 @@ pub struct Handed {
     order: Vec<usize>,
 }
 
-impl Handed {
-    pub fn new(making: &Making, heaters: &[Heater]) -> Result<Handed, Failed> {
+impl LoweredTank {
+    pub fn new(making: &Making, heaters: &[Heater]) -> Result<LoweredTank, Failed> {
         let mut given: Vec<usize> = (0..heaters.len()).collect();
         let tank = if heaters.iter().any(in_the_lid) {
             let compared = |a: &usize, b: &usize| heaters[*a].position.partial_cmp(&heaters[*b].position);
@@ -49,7 +50,7 @@ impl Handed {
             Tank::new(making, heaters)?
         };
         let order = tank.order().iter().map(|place| given[*place]).collect();
-        Ok(Handed { tank, given, order })
+        Ok(LoweredTank { tank, given, order })
     }
 
     /// The given index of each heater, in working order.
