@@ -183,7 +183,7 @@ whole-one = refl
 
 -- ---- the cut of a whole number by itself
 
--- once a whole number is that number
+-- 1 × a whole number is that number
 times-one : (y : Float) (k : ℕ) → HasValue y false k 1 → one-f ⊛ y ≡ whole k
 unfolding mul ofBits ofInt
 times-one nan k v = absurd v

@@ -13,6 +13,7 @@ use Rattle.storage_tank.specs.declared.Stepped.{Stepped}
 use Rattle.storage_tank.specs.Tank.{fixedIn}
 use Rattle.storage_tank.specs.Calls.{cleanHeater}
 
+-- a heater in the lid, with its thermostat; make keeps it as it was given
 abbrev lid : Heater
 lid = record { rated = one-f; position = one-f; «has_thermostat» = true; thermostat = one-f }
 
