@@ -1,4 +1,6 @@
 // The fixed numbers of a cylinder, which no step changes, as the draw and the heating take them, and what is asked of its layers as such.
+#![tactic(auto)]
+
 ghost use Rattle.std.specs.Prelude.{◌≡◌, ◌≤◌};
 ghost use Rattle.mixing.specs.Limits.{max_layers};
 ghost use Rattle.cylinder.specs.Layers.{layer_volume, layer_volumes, no_volume, all_finite};
@@ -7,7 +9,7 @@ use mixing::limits::MAX_LAYERS;
 
 // 01's numbers: layers, volume (litres), standby loss (kWh per 24 h), density `rho` (kg per litre), specific heat `cp` (kWh/kg.K),
 // ambient temperature, and the length of a step (hours).
-#[derive(Drop)]
+#[derive(Clone, Copy)]
 pub struct Cylinder {
     pub layers: usize,
     pub volume: f64,

@@ -17,14 +17,14 @@ use mixing::limits::MAX_LAYERS;
 pub const MAX_EVENTS: usize = 64;
 
 // What an event, or a row of them, answers: the number of 01's refusal, 0 where there is none, and what the step has drawn so far.
-#[derive(Drop)]
+#[derive(Clone, Copy)]
 pub struct EventAnswer {
     pub number: u8,
     pub totals: Totals,
 }
 
 // What one event answers, and the sum of the layers that it left full.
-#[derive(Drop)]
+#[derive(Clone, Copy)]
 pub struct EventWorked {
     pub answer: EventAnswer,
     pub kept: KeptSum,

@@ -9,7 +9,7 @@ use mixing::limits::MAX_LAYERS;
 use numeric::sum2::Accumulator;
 
 // How many layers, from the bottom, and their sum.
-#[derive(Drop)]
+#[derive(Clone, Copy)]
 pub struct KeptSum {
     pub layers: usize,
     pub sum: Accumulator,

@@ -1,4 +1,6 @@
 // The draw events of a step: the draw, the refill, and the mixing of an event that warms the tank from below.
+#![tactic(auto)]
+
 ghost use Rattle.std.specs.Prelude.{◌≡◌};
 ghost use Rattle.draw_events.specs.Event.{no_totals};
 
@@ -6,7 +8,7 @@ pub mod event;
 pub mod kept;
 
 // What a step has drawn so far: the energy withdrawn (kWh), the volume used (litres), the temperatures weighted by volume, and the volume drawn.
-#[derive(Drop)]
+#[derive(Clone, Copy)]
 pub struct Totals {
     pub energy: f64,
     pub used: f64,

@@ -4,7 +4,7 @@ ghost use Rattle.numeric.specs.Sum2.{sum2};
 ghost use Rattle.draw_off.specs.Cold.{cold};
 
 // The water that enters the tank from below.
-#[derive(Drop)]
+#[derive(Clone, Copy)]
 pub struct Feed {
     pub temperature: f64,
 }

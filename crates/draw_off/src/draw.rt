@@ -10,7 +10,7 @@ use cylinder::Cylinder;
 use mixing::limits::MAX_LAYERS;
 
 // What an event has drawn: the rest wanted, the event's energy, and the weighted sum and the volume drawn of the whole step so far.
-#[derive(Drop)]
+#[derive(Clone, Copy)]
 pub struct Drawn {
     pub rest: f64,
     pub energy: f64,

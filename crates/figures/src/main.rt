@@ -1,6 +1,8 @@
 // Runs the figures of 01, and cases at their edges, through make, step and mix, and prints what the calls answer.
 // What they must answer (stdout) was written from 01's numbers, or worked by hand where 01 gives none; three draws whose numbers are no short decimals are
 // from compare/model.py.
+#![tactic(auto)]
+
 mod answers;
 mod asymmetric;
 mod draws;

@@ -2,6 +2,8 @@
 // own, copy this folder and its line of crates.txt, with a name of your own for first_tank, in its proofs too.
 // What it must print (`stdout`) is not its own word: the tank and the mixing are figures of document 01 (docs/MODEL.md), and the job (`stdin`) is the second
 // example of docs/JOB_FORMAT.md. day/tests/test_documents.py works every line out again by compare/model.py.
+#![tactic(auto)]
+
 mod print;
 
 use draw_events::event::MAX_EVENTS;

@@ -1,4 +1,6 @@
 // The sums over a running group's layers alone, and the guess at a total.
+#![tactic(auto)]
+
 ghost use Rattle.std.specs.Prelude.{◌≡◌, true, ◌≤◌, ◌<◌};
 ghost use Rattle.numeric.specs.Sum2.{total};
 ghost use Rattle.mixing.specs.Limits.{max_layers};

@@ -1,4 +1,6 @@
 // The two switches of a heater. `t` is the temperature of the thermostat layer.
+#![tactic(auto)]
+
 ghost use Rattle.std.specs.Prelude.{◌≡◌, ◌||◌};
 ghost use Rattle.std.specs.Float.Ieee.{lt};
 ghost use Rattle.numeric.specs.Close.{narrow_close};

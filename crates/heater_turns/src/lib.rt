@@ -1,4 +1,6 @@
 // The heaters' turns of a step, in working order, each on the layers left by the one before.
+#![tactic(auto)]
+
 ghost use Rattle.std.specs.Prelude.{◌≡◌, ◌≤◌, ◌<◌, take};
 ghost use Rattle.mixing.specs.Limits.{max_layers};
 ghost use Rattle.working_order.specs.Order.{max_heaters};
@@ -15,7 +17,7 @@ use working_order::MAX_HEATERS;
 
 // Where the turns have come to, besides what they write in lent arrays: the number of 01's refusal or 0, the heaters' losses so far, and how many turns there
 // were.
-#[derive(Drop)]
+#[derive(Clone, Copy)]
 pub struct TurnsAnswer {
     pub number: u8,
     pub losses: f64,

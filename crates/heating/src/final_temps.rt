@@ -10,7 +10,7 @@ use mixing::limits::MAX_LAYERS;
 use set_points::SetPoints;
 
 // What the heat came to: 9 where the mixing is out of order, else 0; its rounds, the adjusted input and the losses.
-#[derive(Drop)]
+#[derive(Clone, Copy)]
 pub struct FinalTempsAnswer {
     pub number: u8,
     pub rounds: usize,

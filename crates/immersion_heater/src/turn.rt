@@ -10,7 +10,7 @@ use mixing::limits::MAX_LAYERS;
 use set_points::SetPoints;
 
 // An immersion heater in a cylinder: its rated power (kW), its layer and its thermostat's.
-#[derive(Drop)]
+#[derive(Clone, Copy)]
 pub struct Immersion {
     pub rated: f64,
     pub layer: usize,
@@ -18,7 +18,7 @@ pub struct Immersion {
 }
 
 // What a turn came to: 9 or 10 where it ends the step, else 0; whether the heater ran on; its flag and its figures.
-#[derive(Drop)]
+#[derive(Clone, Copy)]
 pub struct TurnAnswer {
     pub number: u8,
     pub ran: bool,

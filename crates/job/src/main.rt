@@ -1,5 +1,7 @@
 // Reads a job of at most 65,536 bytes from standard input and prints its lines, those of a record together. A read or a write that fails ends the program, and
 // standard error says why: then standard output has a beginning of the lines, and nothing where it was a read.
+#![tactic(auto)]
+
 ghost use Rattle.std.specs.Prelude.{◌≤◌, length};
 ghost use Rattle.job_model.specs.Job.{Countable, record_run};
 ghost use Rattle.job_model.specs.Handed.{Sends, Handed};

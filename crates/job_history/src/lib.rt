@@ -1,4 +1,6 @@
 // Why a heater is on: the turns of a job's steps, and a line for each.
+#![tactic(auto)]
+
 pub mod facts;
 pub mod lines;
 pub mod record;
@@ -9,7 +11,7 @@ use working_order::MAX_HEATERS;
 
 // What is told of a turn: whose it was, its set points, its thermostat layer where it began and where it ended, whether the heater ran on, its flag at the
 // end, what it supplied, and the rounds of its mixing (0 where that was refused).
-#[derive(Drop)]
+#[derive(Clone, Copy)]
 pub struct TurnFact {
     pub heater: usize,
     pub points: SetPoints,
@@ -22,14 +24,14 @@ pub struct TurnFact {
 }
 
 // The turns of a step in working order, as far as it got; the places past their count are of no turn.
-#[derive(Drop)]
+#[derive(Clone, Copy)]
 pub struct Turns {
     pub count: usize,
     pub facts: [TurnFact; MAX_HEATERS],
 }
 
 // What a step answers, and its turns.
-#[derive(Drop)]
+#[derive(Clone, Copy)]
 pub struct ToldStep {
     pub stepped: Stepped,
     pub turns: Turns,

@@ -1,4 +1,6 @@
 // The records of a job: what each kind holds, numbers in its bytes, and the laws of which records are well formed. The crate `job_reader` reads them.
+#![tactic(auto)]
+
 pub mod bytes;
 
 use draw_events::event::MAX_EVENTS;
@@ -6,7 +8,7 @@ use tank_model::{Heater, Setting};
 use working_order::MAX_HEATERS;
 
 // A tank's record: the numbers of its design, heaters apart.
-#[derive(Drop)]
+#[derive(Clone, Copy)]
 pub struct TankRecord {
     pub layers: usize,
     pub volume: f64,
@@ -19,7 +21,7 @@ pub struct TankRecord {
 }
 
 // A step's record: its feed temperature, and how many draw events and set-point entries it holds.
-#[derive(Drop)]
+#[derive(Clone, Copy)]
 pub struct StepRecord {
     pub feed: f64,
     pub events: usize,
@@ -27,7 +29,7 @@ pub struct StepRecord {
 }
 
 // A record by its kind; refused is 01's number 11.
-#[derive(Drop)]
+#[derive(Clone, Copy)]
 pub enum Record {
     Tank(TankRecord),
     Heater(Heater),
@@ -36,7 +38,7 @@ pub enum Record {
 }
 
 // What reading answers: the record, a step's volumes and settings, and the position after it. What a case does not use is zero.
-#[derive(Drop)]
+#[derive(Clone, Copy)]
 pub struct Reading {
     pub content: Record,
     pub volumes: [f64; MAX_EVENTS],

@@ -1,4 +1,6 @@
 // The filling of one layer, from what it still holds.
+#![tactic(auto)]
+
 ghost use Rattle.std.specs.Prelude.{◌≡◌, List, ◌<◌, Float};
 ghost use Rattle.mixing.specs.Limits.{max_layers};
 ghost use Rattle.layer_filling.specs.Filling.{take_share, take_from, from_feed, enters_warmer};
@@ -8,7 +10,7 @@ use draw_off::cold::Feed;
 use mixing::limits::MAX_LAYERS;
 
 // The filling of one layer: what it lacks, the volume it has, that volume weighted by temperature, and the coldest water met.
-#[derive(Drop)]
+#[derive(Clone, Copy)]
 pub struct LayerFilling {
     pub lack: f64,
     pub volume: f64,

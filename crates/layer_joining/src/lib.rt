@@ -1,4 +1,6 @@
 // A layer joins the running group: the group's new temperature, and its heat at it.
+#![tactic(auto)]
+
 ghost use Rattle.std.specs.Prelude.{◌≡◌};
 ghost use Rattle.layer_joining.specs.Running.{EachWith, joined_group, Enters, EntersAny, EntersEven, EntersGuessed, StillFollows};
 
@@ -6,7 +8,7 @@ use mixing::limits::MAX_LAYERS;
 use numeric::sum2::Accumulator;
 
 // The running group, and what the round has met so far.
-#[derive(Drop)]
+#[derive(Clone, Copy)]
 pub struct RunningGroup {
     // Its lowest layer, and the temperature of its layers.
     pub bottom: usize,

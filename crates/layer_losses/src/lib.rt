@@ -1,4 +1,6 @@
 // What one layer loses, and the temperature at which it ends, told by what stands at that layer alone.
+#![tactic(auto)]
+
 ghost use Rattle.std.specs.Prelude.{◌≡◌};
 ghost use Rattle.numeric.specs.Double.{◌⊛◌};
 ghost use Rattle.layer_losses.specs.Loss.{clearly_above, over_upper, standby_coefficient, counted_temp, standing_loss, loss};
@@ -75,7 +77,7 @@ fn limited_temp(p: SetPoints, warmed: bool, t: f64, lost: f64, capacity: f64) ->
 }
 
 // What a layer loses, and the temperature at which it ends.
-#[derive(Drop)]
+#[derive(Clone, Copy)]
 pub struct LayerAfter {
     pub lost: f64,
     pub temp: f64,

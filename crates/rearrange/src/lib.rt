@@ -1,4 +1,6 @@
 // `rearrange_temperatures`: rounds until order is nondecreasing, the first always run; and the call `mix`.
+#![tactic(auto)]
+
 pub mod mix;
 
 ghost use Rattle.std.specs.Prelude.{◌≤◌};

@@ -1,4 +1,6 @@
 // Layers that repeat: what one layer takes from the full layer below it, that layer takes from the next.
+#![tactic(auto)]
+
 ghost use Rattle.std.specs.Prelude.{◌≡◌, true, ◌-◌, ◌≤◌, ◌<◌};
 ghost use Rattle.mixing.specs.Limits.{max_layers};
 ghost use Rattle.repeating_layers.specs.Repeats.{Repeats, RepeatsAt, OverFull};
@@ -7,7 +9,7 @@ use mixing::limits::MAX_LAYERS;
 
 // The volumes of a layer, where it repeats: it takes `full` and holds `held`; it lacks `lack`, and has `after` when it is filled. A full layer below it comes
 // to have the same, so they are worked once, and no layer waits for the one above it.
-#[derive(Drop)]
+#[derive(Clone, Copy)]
 pub struct KeptFilling {
     pub repeats: bool,
     pub full: f64,

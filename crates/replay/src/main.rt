@@ -1,5 +1,7 @@
 // Runs the stored jobs through the functions that the program `job` runs, and holds every line against the Rust's.
 // Standard input is a case after another: a 4-byte length and a job, then a 4-byte length and the lines that it must print.
+#![tactic(auto)]
+
 ghost use Rattle.std.specs.Prelude.{◌≡◌, ◌≤◌, length, drop};
 ghost use Rattle.job_model.specs.Job.{job_text};
 ghost use Rattle.replay.specs.Same.{same_text, begins_with};
@@ -9,7 +11,7 @@ use libc::{STDIN_FILENO, STDOUT_FILENO};
 const MAX_BYTES: usize = 65536;
 
 // The cases run, the lines that they should print, and the cases whose lines differ.
-#[derive(Drop)]
+#[derive(Clone, Copy)]
 struct Tally {
     cases: u64,
     lines: u64,

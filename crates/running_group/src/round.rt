@@ -9,7 +9,7 @@ use layer_joining::RunningGroup;
 use mixing::limits::MAX_LAYERS;
 
 // Whether every product met was finite, and if so whether the layers are in order after the round.
-#[derive(Drop)]
+#[derive(Clone, Copy)]
 pub struct RoundAnswer {
     pub finite: bool,
     pub sorted: bool,

@@ -1,9 +1,11 @@
 // A heater's set points, and each of them.
+#![tactic(auto)]
+
 ghost use Rattle.std.specs.Prelude.{◌≡◌};
 ghost use Rattle.set_points.specs.SetPoints.{has_lower, has_upper, lower_of, upper_of};
 
 // A heater's set points: neither, the lower only, the upper only, or both, the lower one first.
-#[derive(Drop)]
+#[derive(Clone, Copy)]
 pub enum SetPoints {
     Neither,
     Lower(f64),

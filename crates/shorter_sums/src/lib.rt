@@ -1,4 +1,6 @@
 // Shorter ways to Sum2, where the terms are above zero and the sum is finite: a smaller term by FastTwoSum, and equal terms from 4 b or 5 b on.
+#![tactic(auto)]
+
 ghost use Rattle.std.specs.Prelude.{◌≤◌};
 ghost use Rattle.shorter_sums.specs.Shorter.{SmallerAdded, OneAdded, EqualAdded};
 

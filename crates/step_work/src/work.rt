@@ -37,7 +37,7 @@ fn are_both_finite(x: f64, y: f64) -> bool
 }
 
 // What a step's work answers: 0 with what was drawn and the two figures of its end, or the number of 01's refusal; and how many heaters had their turn.
-#[derive(Drop)]
+#[derive(Clone, Copy)]
 pub struct WorkAnswer {
     pub number: u8,
     pub turns: usize,

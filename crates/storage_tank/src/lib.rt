@@ -1,4 +1,6 @@
 // The storage tank: what the calls make and step hand back.
+#![tactic(auto)]
+
 pub mod hot_water;
 pub mod make;
 
@@ -8,7 +10,7 @@ use working_order::MAX_HEATERS;
 
 // The tank: its fixed numbers, its layers' temperatures, the bottom first, its heaters as given, and their flags.
 // A count may be any number; what is past it in an array is not looked at.
-#[derive(Drop)]
+#[derive(Clone, Copy)]
 pub struct StorageTank {
     pub layers: usize,
     pub volume: f64,
@@ -24,7 +26,7 @@ pub struct StorageTank {
 }
 
 // What a step reports: energy withdrawn (kWh), volume used (litres), average draw-off temperature, recoverable losses (kWh), and each heater's line, as given.
-#[derive(Drop)]
+#[derive(Clone, Copy)]
 pub struct Report {
     pub energy: f64,
     pub used: f64,
@@ -34,14 +36,14 @@ pub struct Report {
 }
 
 // What make answers: 0 and the tank, or the number of 01's refusal and a tank of no layers, no heaters and zeros.
-#[derive(Drop)]
+#[derive(Clone, Copy)]
 pub struct Made {
     pub number: u8,
     pub tank: StorageTank,
 }
 
 // What a step answers: 0 with the stepped tank and its report, or the number of 01's refusal with the tank and the report handed in.
-#[derive(Drop)]
+#[derive(Clone, Copy)]
 pub struct Stepped {
     pub number: u8,
     pub tank: StorageTank,
@@ -49,7 +51,7 @@ pub struct Stepped {
 }
 
 // What a step answers, and how many heaters had their turn in it.
-#[derive(Drop)]
+#[derive(Clone, Copy)]
 pub struct NotedStep {
     pub turns: usize,
     pub stepped: Stepped,

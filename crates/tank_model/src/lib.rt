@@ -1,13 +1,15 @@
 // What a tank is made from, what a step asks of it, and what it reports of a heater.
 // The work of a step, and of a list of calls, is defined over these (`specs/`).
 // A count may be any number; what is past it in an array is not looked at.
+#![tactic(auto)]
+
 use cylinder::Cylinder;
 use draw_events::event::MAX_EVENTS;
 use set_points::SetPoints;
 use working_order::MAX_HEATERS;
 
 // An immersion heater: its rated power (kW), its position, from 0 at the bottom of the tank to 1 in its lid, and its thermostat's, where it has one of its own.
-#[derive(Drop)]
+#[derive(Clone, Copy)]
 pub struct Heater {
     pub rated: f64,
     pub position: f64,
@@ -17,7 +19,7 @@ pub struct Heater {
 
 // What a tank is made from. Volume is in litres, `standby` in kWh per 24 h, the density `rho` in kg per litre, the specific heat `cp` in kWh/kg.K,
 // the step length in hours.
-#[derive(Drop)]
+#[derive(Clone, Copy)]
 pub struct TankDesign {
     pub layers: usize,
     pub volume: f64,
@@ -32,13 +34,13 @@ pub struct TankDesign {
 }
 
 // A step's set points for one heater.
-#[derive(Drop)]
+#[derive(Clone, Copy)]
 pub struct Setting {
     pub points: SetPoints,
 }
 
 // A step: the feed temperature, the volumes of its draw events (litres), and one setting for each heater, as given.
-#[derive(Drop)]
+#[derive(Clone, Copy)]
 pub struct Step {
     pub feed: f64,
     pub events: usize,
@@ -48,7 +50,7 @@ pub struct Step {
 }
 
 // What a step reports of a heater: its flag, its adjusted input, energy supplied and losses (kWh), and the rounds of its mixing.
-#[derive(Drop)]
+#[derive(Clone, Copy)]
 pub struct HeaterLine {
     pub flag: bool,
     pub adjusted: f64,
@@ -58,7 +60,7 @@ pub struct HeaterLine {
 }
 
 // The numbers of a step whose arrays are lent: the cylinder's, how many heaters it has, and the step's own beside its volumes and set points.
-#[derive(Drop)]
+#[derive(Clone, Copy)]
 pub struct StepNumbers {
     pub cylinder: Cylinder,
     pub heaters: usize,

@@ -1,5 +1,7 @@
 // `calc_temps_after_thermal_losses`. `before` are the layers before the heat, `mixed` those that the mixing left, `charged` what earlier heaters
 // charged each layer this step.
+#![tactic(auto)]
+
 ghost use Rattle.std.specs.Prelude.{◌≡◌, ◌≤◌, ◌<◌};
 ghost use Rattle.mixing.specs.Limits.{max_layers};
 ghost use Rattle.thermal_losses.specs.Losses.{surplus_from, surplus, adjusted, HeatLost, LossesWorked};
@@ -88,7 +90,7 @@ fn lose_heat(
 }
 
 // What the losses and the limit come to: the adjusted input and the heater's losses.
-#[derive(Drop)]
+#[derive(Clone, Copy)]
 pub struct LossesAnswer {
     pub adjusted: f64,
     pub losses: f64,

@@ -1,4 +1,6 @@
 // The order in which a step works its heaters: rising position, ties in the given order. An insertion sort of their numbers, from the last heater to the first.
+#![tactic(auto)]
+
 ghost use Rattle.std.specs.Prelude.{◌≡◌, ◌++◌, ◌+◌, ◌-◌, ◌≤◌, ◌<◌, length, replicate};
 ghost use Rattle.working_order.specs.Order.{max_heaters, NumbersFrom, with_heater, comes_before, rising_order, position_in};
 
