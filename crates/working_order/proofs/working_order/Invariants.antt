@@ -1,0 +1,10 @@
+-- `working_order` meets its contract. The loop's invariant: the places from x on hold the heaters from x on, in order.
+use Rattle.working_order.specs.Order.{comes_before, position_in}
+use Rattle.working_order.proofs.Sorting.{Sorted}
+use Rattle.working_order.proofs.working_order.Given as goal
+
+abbrev pub invariant-loop-x : goal.invariant-loop-x
+invariant-loop-x l = Sorted (comes_before (position_in l.heaters)) l.n l.x l.order
+
+abbrev pub decreases-loop-x : goal.decreases-loop-x
+decreases-loop-x l = l.x
