@@ -1,0 +1,12 @@
+-- `rearrange::rearrange_temperatures` meets its contract (01, Mix). The loop's invariant: after k rounds, none of which gave order, the rounds left give the whole mixing.
+use mathlib.Core.Path.{◌≡◌}
+use mathlib.Core.Bool.{false}
+use Prim.Native.Nat.{◌-◌, ◌≤◌}
+use Rattle.mixing.specs.Rearrange.{rounds, rearrange}
+use Rattle.rearrange.proofs.rearrange_temperatures.Given as goal
+
+abbrev pub invariant-loop-k : goal.invariant-loop-k
+invariant-loop-k l = (l.k ≤ l.limit) × (l.initial' ≡ l.initial.temps) × (rearrange l.n l.vol l.initial.temps ≡ rounds (l.limit - l.k) false l.k l.n l.vol l.temps)
+
+abbrev pub decreases-loop-k : goal.decreases-loop-k
+decreases-loop-k l = l.limit - l.k
