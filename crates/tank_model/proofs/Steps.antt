@@ -112,8 +112,10 @@ module _ (hs : List ℕ) (s : Heating) (u : Turn) (s1 : Heating) (us : List Turn
           → latched (any (of_heater h began) us) (any (of_heater h ended) us) (get_or (set s.flags u.heater u.turned.flag) h false)
           ≡ latched (any (of_heater h began) (u ∷ us)) (any (of_heater h ended) (u ∷ us)) (get_or s.flags h false)
       go (yes e) =
-          rw (e, none_of u.heater began us not_again, none_of u.heater ended us not_again, nothing_latched, is_true (eqb u.heater u.heater) (eqb_refl u.heater), or-false (began u), or-false (ended u))
-          (get_or-set_same s.flags u.heater u.turned.flag false l.flag_place ∙ latches)
+          let others : All (λ (v : Turn). h ≢ v.heater) us = rw e not_again in
+          let own : eqb u.heater h ≡ true = rw e (is_true (eqb u.heater u.heater) (eqb_refl u.heater)) in
+          rw (none_of h began us others, none_of h ended us others, nothing_latched, own, or-false (began u), or-false (ended u))
+          (rw e (get_or-set_same s.flags u.heater u.turned.flag false l.flag_place ∙ latches))
       go (no n) = rw (eqb_not u.heater h (λ e. n (sym e)), get_or-set_other s.flags u.heater h u.turned.flag false n)
 
   law_more : Law (u.heater ∷ hs) s (u ∷ us) s2
