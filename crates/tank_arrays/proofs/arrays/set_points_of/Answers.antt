@@ -1,0 +1,20 @@
+-- `arrays::set_points_of` meets its contract (01, Tank). The loop's invariant: writing the heaters left gives the whole.
+use Prim.Native.Nat.{◌-◌}
+use mathlib.Core.Path.{◌∙◌}
+use Rattle.numeric.specs.Double.{zero_f}
+use Rattle.numeric.specs.Iterate.{rest_start, rest_next, rest_end}
+use Rattle.set_points.specs.SetPoints.{lower_of, upper_of}
+use Rattle.tank_arrays.specs.Arrays.{set_points_of}
+use Rattle.tank_arrays.proofs.LentArrays.{both_rows}
+use Rattle.tank_arrays.proofs.arrays.set_points_of.Goals as goal
+
+pub loop-h-init : goal.loop-h-init
+loop-h-init c = rest_start _ _ _
+
+pub loop-h-preserved : goal.loop-h-preserved
+loop-h-preserved c =
+    rw (c.upper_of.ensures, c.lower_of.ensures) (rest_next _ _ _ _ _ c.loop-h-test.true c.loop-h.invariant)
+
+pub returns : goal.returns
+unfolding set_points_of
+returns c = rest_end _ _ _ _ _ c.loop-h-test.false c.loop-h.invariant ∙ both_rows _ _ zero_f
