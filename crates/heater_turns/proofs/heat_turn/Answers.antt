@@ -21,29 +21,10 @@ use Rattle.tank_arrays.specs.LaidOut.{LineWritten}
 use Rattle.heater_turns.specs.declared.TurnsAnswer.{TurnsAnswer}
 use Rattle.heater_turns.specs.Lent.{immersion, TurnArrays, turn_arrays, TurnWorkedIn}
 use borrow.Author.Rules.{rules}
-use Rattle.heater_turns.proofs.heat_turn.Statement.{statement}
-use Rattle.heater_turns.proofs.heat_turn.Tie as tie
+use Rattle.heater_turns.proofs.heat_turn.Goals as goal
 
 below : (n : ℕ) (x : Heater) (i : Immersion) → i ≡ immersion n x → 1 ≤ n → n ≤ max_layers → (i.layer < n) × (i.thermostat < n)
 below n x i e l m = rw e (layer_below n (omega arith) (omega arith) _, layer_below n (omega arith) (omega arith) _)
-
-turn-requires : tie.Need-turn-requires
-turn-requires c κs = let b = below c.before.before.before.before.before.args.c.layers c.before.before.before.before.before.args.x c.before.before.before.before.immersion-of.result c.before.before.before.before.immersion-of.ensures c.before.before.before.before.before.requires.0 c.before.before.before.before.before.requires.1 in (b.0, b.1, omega arith)
-
-mul-course : tie.Need-overflow-mul-course
-mul-course c = omega (arith, below c.before.args.c.layers c.before.args.x c.immersion-of.result c.immersion-of.ensures c.before.requires.0 c.before.requires.1)
-
-element-copy-out-course : tie.Need-element-copy-out-course
-element-copy-out-course c = omega (arith, below c.before.args.c.layers c.before.args.x c.immersion-of.result c.immersion-of.ensures c.before.requires.0 c.before.requires.1)
-
-mul-course-3 : tie.Need-overflow-mul-course-3
-mul-course-3 c = omega (arith, below c.before.before.before.before.before.before.args.c.layers c.before.before.before.before.before.before.args.x c.before.before.before.before.before.immersion-of.result c.before.before.before.before.before.immersion-of.ensures c.before.before.before.before.before.before.requires.0 c.before.before.before.before.before.before.requires.1)
-
-element-copy-out-course-2 : tie.Need-element-copy-out-course-2
-element-copy-out-course-2 c = omega (arith, below c.before.before.before.before.before.before.args.c.layers c.before.before.before.before.before.before.args.x c.before.before.before.before.before.immersion-of.result c.before.before.before.before.before.immersion-of.ensures c.before.before.before.before.before.before.requires.0 c.before.before.before.before.before.before.requires.1)
-
-write-line-requires : tie.Need-write-line-requires
-write-line-requires c κs = (search rules, search rules)
 
 -- what the turn of the immersion heater i answers and leaves, and what is written of it, is the turn noted
 turn_noted : (c : Cylinder) (vol : List Float) (x : Heater) (h : ℕ) (p : SetPoints) (s : TurnsAnswer) (before : TurnArrays)
@@ -66,27 +47,23 @@ turn_noted c vol x h p s before i e u temps charged t figures flags rounds l =
       holds = l.holds;
     }
 
-returns : tie.Need-returns
-returns c = turn_noted _ _ c.before.before.before.before.before.before.before.before.before.before.before.before.before.before.args.x _ _ _ _ _ c.before.before.before.before.before.before.before.before.before.before.before.before.before.immersion-of.ensures _ _ _ c.before.before.before.before.before.before.before.before.turn.ensures _ _ _ c.before.before.before.write-line.ensures
+pub offset_bounds-temps-thermostat : goal.offset_bounds-temps-thermostat
+offset_bounds-temps-thermostat c = omega (arith, below c.args.c.layers c.args.x c.immersion_of-i.result c.immersion_of-i.ensures c.requires.0 c.requires.1)
 
-pub heat_turn_spec : {M : Type 1} → statement M
-heat_turn_spec =
-    tie.close
-    (tie.spec
-    (λ c κs. search rules)
-    mul-course
-    element-copy-out-course
-    (λ c. search rules)
-    (λ c. search rules)
-    (λ c. search rules)
-    turn-requires
-    mul-course-3
-    element-copy-out-course-2
-    (λ c. search rules)
-    (λ c. search rules)
-    (λ c. search rules)
-    (λ c. search rules)
-    (λ c. search rules)
-    write-line-requires
-    (λ c. search rules)
-    returns)
+pub bounds-temps-thermostat : goal.bounds-temps-thermostat
+bounds-temps-thermostat c = omega (arith, below c.args.c.layers c.args.x c.immersion_of-i.result c.immersion_of-i.ensures c.requires.0 c.requires.1)
+
+pub turn-u-requires : goal.turn-u-requires
+turn-u-requires c = let b = below c.args.c.layers c.args.x c.immersion_of-i.result c.immersion_of-i.ensures c.requires.0 c.requires.1 in (b.0, b.1, omega arith)
+
+pub offset_bounds-temps-thermostat-2 : goal.offset_bounds-temps-thermostat-2
+offset_bounds-temps-thermostat-2 c = omega (arith, below c.args.c.layers c.args.x c.immersion_of-i.result c.immersion_of-i.ensures c.requires.0 c.requires.1)
+
+pub bounds-temps-thermostat-2 : goal.bounds-temps-thermostat-2
+bounds-temps-thermostat-2 c = omega (arith, below c.args.c.layers c.args.x c.immersion_of-i.result c.immersion_of-i.ensures c.requires.0 c.requires.1)
+
+pub write_line-requires : goal.write_line-requires
+write_line-requires c = (search rules, search rules)
+
+pub returns : goal.returns
+returns c = turn_noted _ _ c.args.x _ _ _ _ _ c.immersion_of-i.ensures _ _ _ c.turn-u.ensures _ _ _ c.write_line.ensures
