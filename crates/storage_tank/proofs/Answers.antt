@@ -62,7 +62,7 @@ module _ (t : StorageTank) (r : Report) (a : Step) (w : WorkAnswer) (temps : Lis
   step_accepts z = go (worked.accepts z).0 (worked.accepts z).1 (worked.accepts z).2
     where
       go : (s : Outcome) → (work (fixed_in t) (state_in t) a).end ≡ done s → Left s w temps flags x'.lines → accepted_step t temps flags w x'.lines ≡ stepped t r a
-      go s e l = unfold stepped answer in (rw (e, ← l.recoverable_is, l.temps_are, l.totals_are, l.average_is, l.flags_are, l.lines-are))
+      go s e l = unfold stepped answer in (rw (e, ← l.recoverable_is, l.temps_are, l.totals_are, l.average_is, l.flags_are, l.lines_are))
 
   -- what is noted from arrays of zeros
   pub step_noted : (s : NotedStep) → s.stepped ≡ stepped t r a → s.turns ≡ w.turns → x ≡ no_notes → StepNoted t r a s x'
