@@ -1,0 +1,9 @@
+-- `reports::figures_of` meets its contract (01, The four calls): the lines are taken one by one.
+use mathlib.Core.Path.{refl}
+use Rattle.numeric.specs.Tabulate.{tabulate}
+use Rattle.lent_tank.specs.Reports.{figures_of}
+use Rattle.lent_tank.proofs.reports.figures_of.Goals as goal
+
+pub returns : goal.returns
+unfolding tabulate figures_of
+returns c = refl
