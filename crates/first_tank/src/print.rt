@@ -21,7 +21,7 @@ pub fn number(rt: &impl Print, n: u64) -> io::Result<()> {
 pub fn double(rt: &impl Print, x: f64) -> io::Result<()> {
     if x > -1.0 {
         if x < 18446744073709551616.0 {
-            let n = std::num::truncating_f64_to_u64(x);
+            let n = std::num::saturating_f64_to_u64(x);
             if std::num::nearest_u64_to_f64(n) == x {
                 return number(rt, n);
             }

@@ -94,10 +94,10 @@ fn judge(rt: &(impl Input + Eprint + Clock), bytes: &[u8], stored: &mut [u8], t:
     streams::fill(rt, "replay", stored);
     let n = line_count(stored) as u64;
     let mut r = t;
-    r.cases = std::num::wrapping_add_u64(t.cases, 1);
-    r.lines = std::num::wrapping_add_u64(t.lines, n);
+    r.cases = t.cases.wrapping_add(1);
+    r.lines = t.lines.wrapping_add(n);
     if !is_same(bytes, stored) {
-        r.differ = std::num::wrapping_add_u64(t.differ, 1);
+        r.differ = t.differ.wrapping_add(1);
     }
     r
 }
