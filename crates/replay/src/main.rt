@@ -39,15 +39,7 @@ fn begins_with(stored: &[u8], at: usize, text: &[u8]) -> bool
 }
 
 fn line_count(stored: &[u8]) -> usize {
-    let mut n = 0;
-    let mut i = 0;
-    while i < stored.len() {
-        if stored[i] == b'\n' {
-            n += 1;
-        }
-        i += 1;
-    }
-    n
+    stored.iter().filter(|b| **b == b'\n').count()
 }
 
 // What the job prints is the stored lines, all of them and no more.
@@ -131,9 +123,7 @@ fn main(rt: HostRuntime) -> io::Result<()> {
         differ: 0,
         ended: false,
     };
-    let mut records = MAX_BYTES;
-    while 0 < records {
-        records -= 1;
+    for _ in 0..MAX_BYTES {
         if !t.ended {
             t = next_case(&rt, t);
         }
