@@ -1,5 +1,5 @@
 // A first program over the four calls: it makes a tank, steps it, mixes layers and reads a job, and prints what each call answers. To begin a program of your
-// own, copy this folder and its line of crates.txt, with a name of your own for first_tank, in its proofs too.
+// own, copy this folder and its line of crates.txt, with a name of your own for first_tank.
 // What it must print (`stdout`) is not its own word: the tank and the mixing are figures of document 01 (docs/MODEL.md), and the job (`stdin`) is the second
 // example of docs/JOB_FORMAT.md. day/tests/test_documents.py works every line out again by compare/model.py.
 #![tactic(auto)]
