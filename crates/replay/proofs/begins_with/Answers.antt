@@ -1,5 +1,5 @@
 -- `begins_with` meets its contract: the bytes passed agree, and what is left of both decides.
-use Rattle.std.proofs.Common.{◌+◌, ◌-◌, drop, sym, ◌∙◌, add-zero, arith, rules}
+use Rattle.std.proofs.Common.{◌+◌, drop, sym, ◌∙◌, add-zero, arith, rules}
 use Rattle.replay.proofs.Same.{byte_agrees, byte_differs, begins_past, begins_all}
 use Rattle.replay.proofs.begins_with.Goals as goal
 
