@@ -9,7 +9,7 @@ use working_order::MAX_HEATERS;
 pub fn make(rt: &impl Print, m: TankDesign) -> io::Result<StorageTank> {
     let made = StorageTank::new(m);
     let t = made.tank;
-    print::word(rt, "make")?;
+    print::word(rt, b"make")?;
     print::number(rt, made.number as u64)?;
     print::number(rt, t.heaters as u64)?;
     print::line_end(rt)?;
@@ -20,7 +20,7 @@ pub fn make(rt: &impl Print, m: TankDesign) -> io::Result<StorageTank> {
 
 // `heater`, the flag in the tank, the flag in the report, adjusted, supplied, losses and rounds.
 fn heater(rt: &impl Print, flag: bool, x: HeaterLine) -> io::Result<()> {
-    print::word(rt, "heater")?;
+    print::word(rt, b"heater")?;
     print::flag(rt, flag)?;
     print::flag(rt, x.flag)?;
     print::double(rt, x.adjusted)?;
@@ -50,7 +50,7 @@ fn heaters(
 fn show(rt: &impl Print, s: Stepped) -> io::Result<()> {
     let t = s.tank;
     let r = s.report;
-    print::word(rt, "step")?;
+    print::word(rt, b"step")?;
     print::number(rt, s.number as u64)?;
     print::double(rt, r.energy)?;
     print::double(rt, r.used)?;

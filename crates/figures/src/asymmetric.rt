@@ -22,7 +22,7 @@ fn after(rt: &impl Print, before: Stepped, a: Step) -> io::Result<Stepped> {
 fn draws(rt: &impl Print) -> io::Result<()> {
     print::word(
         rt,
-        "# Two draws in a step, a draw that spans layers, and one of more than the tank holds\n",
+        b"# Two draws in a step, a draw that spans layers, and one of more than the tank holds\n",
     )?;
     let mut a = tanks::draws(10.0, 2, 12.0);
     a.volumes[1] = 20.0;
@@ -30,7 +30,7 @@ fn draws(rt: &impl Print) -> io::Result<()> {
     after(rt, first, tanks::draws(10.0, 1, 40.0))?;
     print::word(
         rt,
-        "# A feed warmer than the tank: the event ends in a mixing\n",
+        b"# A feed warmer than the tank: the event ends in a mixing\n",
     )?;
     answers::first_step(rt, dense(4, 32.0, 20.0, 1.0), tanks::draws(60.0, 1, 12.0))?;
     Ok(())
@@ -63,7 +63,7 @@ fn for_three(first: SetPoints, second: SetPoints, third: SetPoints) -> Step {
 fn three_heaters(rt: &impl Print) -> io::Result<()> {
     print::word(
         rt,
-        "# Three heaters given out of order, two thermostats elsewhere, losses charged once and a layer limited\n",
+        b"# Three heaters given out of order, two thermostats elsewhere, losses charged once and a layer limited\n",
     )?;
     let mut m = dense(4, 200.0, 40.0, 0.5);
     m.standby = 27.0;
@@ -88,7 +88,7 @@ fn three_heaters(rt: &impl Print) -> io::Result<()> {
 fn thermostats(rt: &impl Print) -> io::Result<()> {
     print::word(
         rt,
-        "# A draw, then three heaters given out of order that switch by thermostats in other layers\n",
+        b"# A draw, then three heaters given out of order that switch by thermostats in other layers\n",
     )?;
     let mut a = for_three(
         SetPoints::Both(20.0, 51.0),
@@ -146,7 +146,7 @@ fn kept_on(rt: &impl Print) -> io::Result<Stepped> {
 }
 
 fn set_points(rt: &impl Print) -> io::Result<()> {
-    print::word(rt, "# Set points that come and go\n")?;
+    print::word(rt, b"# Set points that come and go\n")?;
     let off = next(rt, kept_on(rt)?, SetPoints::Neither)?;
     let still = next(rt, off, SetPoints::Upper(60.0))?;
     let above = next(rt, still, SetPoints::Both(41.0, 60.0))?;
@@ -163,7 +163,7 @@ fn one_step(rt: &impl Print, m: TankDesign, rated: f64, points: SetPoints) -> io
 fn adjusted_alone(rt: &impl Print) -> io::Result<()> {
     print::word(
         rt,
-        "# An adjusted input wide-close to 0 is reported, and nothing is supplied\n",
+        b"# An adjusted input wide-close to 0 is reported, and nothing is supplied\n",
     )?;
     one_step(
         rt,
@@ -174,7 +174,7 @@ fn adjusted_alone(rt: &impl Print) -> io::Result<()> {
 }
 
 fn colder_than_the_room(rt: &impl Print) -> io::Result<()> {
-    print::word(rt, "# A tank colder than the room loses nothing\n")?;
+    print::word(rt, b"# A tank colder than the room loses nothing\n")?;
     let mut m = dense(2, 32.0, 10.0, 0.5);
     m.standby = 27.0;
     one_step(rt, m, 64.0, SetPoints::Neither)
@@ -213,7 +213,7 @@ fn work(rt: &impl Print, before: Stepped) -> io::Result<Stepped> {
 fn refused(rt: &impl Print) -> io::Result<()> {
     print::word(
         rt,
-        "# Steps refused for 6 to 10 between two accepted ones\n",
+        b"# Steps refused for 6 to 10 between two accepted ones\n",
     )?;
     let first = answers::first_step(
         rt,

@@ -98,7 +98,7 @@ fn between(rt: &impl Print, m: TankDesign, n: usize) -> io::Result<()> {
 fn one_heater(rt: &impl Print) -> io::Result<()> {
     print::word(
         rt,
-        "# Faults of one heater's set points, each with a feed of 12 and of not-a-number\n",
+        b"# Faults of one heater's set points, each with a feed of 12 and of not-a-number\n",
     )?;
     between(
         rt,
@@ -111,7 +111,7 @@ fn one_heater(rt: &impl Print) -> io::Result<()> {
 fn two_heaters(rt: &impl Print) -> io::Result<()> {
     print::word(
         rt,
-        "# Faults of two heaters' set points: the first faulty one as given decides\n",
+        b"# Faults of two heaters' set points: the first faulty one as given decides\n",
     )?;
     let mut m = tanks::with_heaters(2, 32.0, 40.0, 2, tanks::heater(160.0, 0.0));
     let mut fitted = m.fitted;

@@ -70,35 +70,35 @@ fn alike(
 pub fn figures(rt: &impl Print) -> io::Result<()> {
     print::word(
         rt,
-        "# Two layers at 40, 160 kW at position 0, set points 50 and 60, four steps\n",
+        b"# Two layers at 40, 160 kW at position 0, set points 50 and 60, four steps\n",
     )?;
     four_steps(rt, SetPoints::Both(50.0, 60.0))?;
-    print::word(rt, "# Set points 41 and 42\n")?;
+    print::word(rt, b"# Set points 41 and 42\n")?;
     one_step(rt, SetPoints::Both(41.0, 42.0))?;
     print::word(
         rt,
-        "# Two layers at 36, standby 27, step 0.125, two heaters unset\n",
+        b"# Two layers at 36, standby 27, step 0.125, two heaters unset\n",
     )?;
     unset(rt, 0.0, 0.0)?;
-    print::word(rt, "# Position 0.5 of 4: layer 2 is heated\n")?;
+    print::word(rt, b"# Position 0.5 of 4: layer 2 is heated\n")?;
     alike(rt, 4, 64.0, 1, 160.0, 0.5)?;
-    print::word(rt, "# Position 1 of 4: layer 3 is heated\n")?;
+    print::word(rt, b"# Position 1 of 4: layer 3 is heated\n")?;
     alike(rt, 4, 64.0, 1, 16.0, 1.0)?;
-    print::word(rt, "# Lower equal to upper\n")?;
+    print::word(rt, b"# Lower equal to upper\n")?;
     one_step(rt, SetPoints::Both(50.0, 50.0))
 }
 
 pub fn edges(rt: &impl Print) -> io::Result<()> {
     print::word(
         rt,
-        "# Two heaters unset, the upper one given first: the lower one is worked first\n",
+        b"# Two heaters unset, the upper one given first: the lower one is worked first\n",
     )?;
     unset(rt, 0.5, 0.0)?;
-    print::word(rt, "# Eight heaters of 10 kW\n")?;
+    print::word(rt, b"# Eight heaters of 10 kW\n")?;
     alike(rt, 2, 32.0, 8, 10.0, 0.0)?;
     print::word(
         rt,
-        "# The upper set point alone: a flag that is off stays off\n",
+        b"# The upper set point alone: a flag that is off stays off\n",
     )?;
     one_step(rt, SetPoints::Upper(60.0))
 }

@@ -19,7 +19,7 @@ fn answer(rt: &impl Print, a: MixAnswer) -> io::Result<()> {
 }
 
 fn show(rt: &impl Print, layers: &mut [f64], layer_volume: f64) -> io::Result<()> {
-    print::word(rt, "mix")?;
+    print::word(rt, b"mix")?;
     answer(rt, rearrange::mix::mix(layers, layer_volume))?;
     print::doubles(rt, layers)?;
     print::line_end(rt)
@@ -32,7 +32,7 @@ fn two(rt: &impl Print, bottom: f64, top: f64, layer_volume: f64) -> io::Result<
 
 // 01's table and traps, with a layer volume of 16.
 pub fn figures(rt: &impl Print) -> io::Result<()> {
-    print::word(rt, "# Mix, with a layer volume of 16\n")?;
+    print::word(rt, b"# Mix, with a layer volume of 16\n")?;
     two(rt, 50.0, 40.0, 16.0)?;
     two(rt, 20.0, 30.0, 16.0)?;
     let mut three = [30.0, 40.0, 5.0];
@@ -63,7 +63,7 @@ fn first(rt: &impl Print, n: usize, layer_volume: f64) -> io::Result<()>
 
 // Layer volumes that refusal 3 stops, and the smallest that it lets pass; then no layers, one, 32 and 33.
 pub fn edges(rt: &impl Print) -> io::Result<()> {
-    print::word(rt, "# Mix: layer volumes, and 0, 1, 32 and 33 layers\n")?;
+    print::word(rt, b"# Mix: layer volumes, and 0, 1, 32 and 33 layers\n")?;
     two(rt, 50.0, 40.0, 0.0)?;
     two(rt, 50.0, 40.0, -0.0)?;
     two(rt, 50.0, 40.0, -1.0)?;

@@ -2,8 +2,8 @@
 use mixing::limits::MAX_LAYERS;
 use std::io;
 
-pub fn word(rt: &impl Print, w: &str) -> io::Result<()> {
-    rt.print(w)
+pub fn word(rt: &impl Print, w: &[u8]) -> io::Result<()> {
+    rt.write_all(w)
 }
 
 pub fn number(rt: &impl Print, n: u64) -> io::Result<()> {
@@ -28,7 +28,7 @@ pub fn doubles(rt: &impl Print, xs: &[f64]) -> io::Result<()> {
 
 // The layers of a tank of n: none of a tank that counts more than it has places.
 pub fn layers(rt: &impl Print, n: usize, temps: [f64; MAX_LAYERS]) -> io::Result<()> {
-    word(rt, "layers")?;
+    word(rt, b"layers")?;
     if n <= MAX_LAYERS {
         doubles(rt, &temps[..n])?;
     }
@@ -36,5 +36,5 @@ pub fn layers(rt: &impl Print, n: usize, temps: [f64; MAX_LAYERS]) -> io::Result
 }
 
 pub fn line_end(rt: &impl Print) -> io::Result<()> {
-    word(rt, "\n")
+    word(rt, b"\n")
 }

@@ -32,14 +32,14 @@ fn temperatures(rt: &impl Print, standby: f64, initial: f64, ambient: f64) -> io
 
 // 3 and 4: each number that may be wrong, alone.
 fn make_numbers(rt: &impl Print) -> io::Result<()> {
-    print::word(rt, "# 3: volume, density, specific heat, step length\n")?;
+    print::word(rt, b"# 3: volume, density, specific heat, step length\n")?;
     numbers(rt, 0.0, 1.0, 1.0, 1.0)?;
     numbers(rt, 32.0, 0.0 / 0.0, 1.0, 1.0)?;
     numbers(rt, 32.0, 1.0, 1.0 / 0.0, 1.0)?;
     numbers(rt, 32.0, 1.0, 1.0, -1.0)?;
     print::word(
         rt,
-        "# 4: standby loss, initial, ambient; a standby loss of -0 is accepted\n",
+        b"# 4: standby loss, initial, ambient; a standby loss of -0 is accepted\n",
     )?;
     temperatures(rt, -1.0, 40.0, 20.0)?;
     temperatures(rt, 0.0, 0.0 / 0.0, 20.0)?;
@@ -56,7 +56,7 @@ fn fitted(rt: &impl Print, h: Heater) -> io::Result<()> {
 fn make_heaters(rt: &impl Print) -> io::Result<()> {
     print::word(
         rt,
-        "# 5: rated power, position, thermostat position, just above 1 too; -0 and 1 are accepted\n",
+        b"# 5: rated power, position, thermostat position, just above 1 too; -0 and 1 are accepted\n",
     )?;
     fitted(rt, tanks::heater(-1.0, 0.0))?;
     fitted(rt, tanks::heater(160.0, -0.5))?;
@@ -78,12 +78,12 @@ fn heaters(rt: &impl Print, n: usize) -> io::Result<()> {
 }
 
 pub fn make(rt: &impl Print) -> io::Result<()> {
-    print::word(rt, "# 1: 0, 1, 32 and 33 layers\n")?;
+    print::word(rt, b"# 1: 0, 1, 32 and 33 layers\n")?;
     layers(rt, 0, 16.0)?;
     layers(rt, 1, 16.0)?;
     layers(rt, 32, 512.0)?;
     layers(rt, 33, 528.0)?;
-    print::word(rt, "# 2: 0, 8 and 9 heaters\n")?;
+    print::word(rt, b"# 2: 0, 8 and 9 heaters\n")?;
     heaters(rt, 0)?;
     heaters(rt, 8)?;
     heaters(rt, 9)?;
@@ -130,7 +130,7 @@ fn stored_heater(rt: &impl Print, t: StorageTank) -> io::Result<()> {
 // 1 to 5 for the tank of a step.
 fn step_tank(rt: &impl Print) -> io::Result<()> {
     let t = answers::make(rt, tanks::plain(2, 32.0, 40.0))?;
-    print::word(rt, "# 1 to 5 of a stored tank\n")?;
+    print::word(rt, b"# 1 to 5 of a stored tank\n")?;
     stored_counts(rt, t)?;
     stored_numbers(rt, t)?;
     stored_heater(rt, t)
@@ -159,12 +159,12 @@ fn heated(rt: &impl Print, n: usize, points: SetPoints) -> io::Result<()> {
 fn step_arguments(rt: &impl Print) -> io::Result<()> {
     print::word(
         rt,
-        "# 6: 65 events; a set-point entry too many, and one too few\n",
+        b"# 6: 65 events; a set-point entry too many, and one too few\n",
     )?;
     drawn(rt, 12.0, 65, 0.0)?;
     on_plain(rt, tanks::heats(1, SetPoints::Neither))?;
     heated(rt, 0, SetPoints::Neither)?;
-    print::word(rt, "# 7: the feed, and volumes\n")?;
+    print::word(rt, b"# 7: the feed, and volumes\n")?;
     drawn(rt, 0.0 / 0.0, 1, 16.0)?;
     drawn(rt, 12.0, 1, -1.0)?;
     drawn(rt, 12.0, 1, 1.0 / 0.0)
@@ -173,7 +173,7 @@ fn step_arguments(rt: &impl Print) -> io::Result<()> {
 fn step_set_points(rt: &impl Print) -> io::Result<()> {
     print::word(
         rt,
-        "# 8, 13 and 12: the lower set point alone, above the upper, and one that is not finite\n",
+        b"# 8, 13 and 12: the lower set point alone, above the upper, and one that is not finite\n",
     )?;
     heated(rt, 1, SetPoints::Lower(50.0))?;
     heated(rt, 1, SetPoints::Both(60.0, 50.0))?;
@@ -192,9 +192,9 @@ pub fn step(rt: &impl Print) -> io::Result<()> {
     step_tank(rt)?;
     step_arguments(rt)?;
     step_set_points(rt)?;
-    print::word(rt, "# 9: a mixing that does not come to order\n")?;
+    print::word(rt, b"# 9: a mixing that does not come to order\n")?;
     on_four(rt, 1.0, tanks::draws(1e307, 1, 32.0))?;
-    print::word(rt, "# 10: an energy too large\n")?;
+    print::word(rt, b"# 10: an energy too large\n")?;
     on_four(rt, 1e307, tanks::draws(12.0, 1, 16.0))
 }
 
@@ -209,7 +209,7 @@ fn steps(rt: &impl Print, m: TankDesign, good: Step, wrong: Step) -> io::Result<
 pub fn between(rt: &impl Print) -> io::Result<()> {
     print::word(
         rt,
-        "# A refused step between two accepted ones leaves tank and report as they were\n",
+        b"# A refused step between two accepted ones leaves tank and report as they were\n",
     )?;
     steps(
         rt,

@@ -9,7 +9,7 @@ use tank_model::Setting;
 const JUST_BELOW_ONE: f64 = 0.9999999999999999;
 
 fn one_layer(rt: &impl Print) -> io::Result<()> {
-    print::word(rt, "# One layer, a heater and its thermostat at 1\n")?;
+    print::word(rt, b"# One layer, a heater and its thermostat at 1\n")?;
     answers::first_step(
         rt,
         tanks::with_heaters(1, 16.0, 40.0, 1, tanks::heater_with(160.0, 1.0, 1.0)),
@@ -22,7 +22,7 @@ fn one_layer(rt: &impl Print) -> io::Result<()> {
 fn thermostat(rt: &impl Print) -> io::Result<()> {
     print::word(
         rt,
-        "# A heater at the bottom with its thermostat at 1, and two draws\n",
+        b"# A heater at the bottom with its thermostat at 1, and two draws\n",
     )?;
     let mut a = tanks::heats(1, SetPoints::Both(50.0, 70.0));
     a.events = 1;
@@ -39,7 +39,7 @@ fn thermostat(rt: &impl Print) -> io::Result<()> {
 fn order(rt: &impl Print) -> io::Result<()> {
     print::word(
         rt,
-        "# A heater at 1, given first, works after one just below it\n",
+        b"# A heater at 1, given first, works after one just below it\n",
     )?;
     let mut m = tanks::with_heaters(1, 16.0, 40.0, 2, tanks::heater(320.0, 1.0));
     let mut fitted = m.fitted;

@@ -104,7 +104,7 @@ fn main(rt: HostRuntime) -> io::Result<()> {
     step(&rt, tank, no_report())?;
     mix(&rt)?;
     let mut buf = [0; 4096];
-    let filled = streams::fill(&rt, "first_tank", &mut buf);
+    let filled = streams::fill(&rt, b"first_tank", &mut buf);
     let n = filled.count;
     read(&rt, &buf[..n])
 }

@@ -9,8 +9,8 @@ use storage_tank::{Made, Stepped};
 use tank_model::{HeaterLine, Setting};
 use working_order::MAX_HEATERS;
 
-pub fn word(rt: &impl Print, w: &str) -> io::Result<()> {
-    rt.print(w)
+pub fn word(rt: &impl Print, w: &[u8]) -> io::Result<()> {
+    rt.write_all(w)
 }
 
 pub fn number(rt: &impl Print, n: u64) -> io::Result<()> {
@@ -35,7 +35,7 @@ pub fn doubles(rt: &impl Print, xs: &[f64]) -> io::Result<()> {
     for x in xs {
         double(rt, *x)?;
     }
-    word(rt, "\n")
+    word(rt, b"\n")
 }
 
 // The layers of a tank of n, the bottom first: none of a tank that counts more than it has places.
@@ -43,49 +43,49 @@ fn layers(rt: &impl Print, n: usize, temps: [f64; MAX_LAYERS]) -> io::Result<()>
     if n > MAX_LAYERS {
         return Ok(());
     }
-    word(rt, "  layers")?;
+    word(rt, b"  layers")?;
     doubles(rt, &temps[..n])
 }
 
 // The number of the refusal, 0 where accepted.
 pub fn made(rt: &impl Print, m: Made) -> io::Result<()> {
-    word(rt, "make")?;
+    word(rt, b"make")?;
     number(rt, m.number as u64)?;
-    word(rt, "\n")?;
+    word(rt, b"\n")?;
     let t = m.tank;
     let temps = t.temps;
     layers(rt, t.layers, temps)
 }
 
 fn heater(rt: &impl Print, x: HeaterLine) -> io::Result<()> {
-    word(rt, "  heater: flag")?;
+    word(rt, b"  heater: flag")?;
     number(rt, x.flag as u64)?;
-    word(rt, ", adjusted")?;
+    word(rt, b", adjusted")?;
     double(rt, x.adjusted)?;
-    word(rt, ", supplied")?;
+    word(rt, b", supplied")?;
     double(rt, x.supplied)?;
-    word(rt, ", losses")?;
+    word(rt, b", losses")?;
     double(rt, x.losses)?;
-    word(rt, ", rounds")?;
+    word(rt, b", rounds")?;
     number(rt, x.rounds as u64)?;
-    word(rt, "\n")
+    word(rt, b"\n")
 }
 
 // With the line of the first heater.
 pub fn stepped(rt: &impl Print, s: Stepped) -> io::Result<()> {
     let t = s.tank;
     let r = s.report;
-    word(rt, "step")?;
+    word(rt, b"step")?;
     number(rt, s.number as u64)?;
-    word(rt, ": energy")?;
+    word(rt, b": energy")?;
     double(rt, r.energy)?;
-    word(rt, ", volume")?;
+    word(rt, b", volume")?;
     double(rt, r.used)?;
-    word(rt, ", average")?;
+    word(rt, b", average")?;
     double(rt, r.average)?;
-    word(rt, ", recoverable")?;
+    word(rt, b", recoverable")?;
     double(rt, r.recoverable)?;
-    word(rt, "\n")?;
+    word(rt, b"\n")?;
     let temps = t.temps;
     layers(rt, t.layers, temps)?;
     let lines = r.lines;
@@ -95,32 +95,32 @@ pub fn stepped(rt: &impl Print, s: Stepped) -> io::Result<()> {
 pub fn mixed(rt: &impl Print, a: MixAnswer) -> io::Result<()> {
     match a {
         MixAnswer::Mixed(rounds) => {
-            word(rt, "mix 0: rounds")?;
+            word(rt, b"mix 0: rounds")?;
             number(rt, rounds as u64)?;
         }
         MixAnswer::Refused(n) => {
-            word(rt, "mix")?;
+            word(rt, b"mix")?;
             number(rt, n as u64)?;
         }
     }
-    word(rt, "\n  layers")
+    word(rt, b"\n  layers")
 }
 
 fn points(rt: &impl Print, p: SetPoints) -> io::Result<()> {
     match p {
         SetPoints::Neither => Ok(()),
         SetPoints::Lower(lower) => {
-            word(rt, ", lower")?;
+            word(rt, b", lower")?;
             double(rt, lower)
         }
         SetPoints::Upper(upper) => {
-            word(rt, ", upper")?;
+            word(rt, b", upper")?;
             double(rt, upper)
         }
         SetPoints::Both(lower, upper) => {
-            word(rt, ", lower")?;
+            word(rt, b", lower")?;
             double(rt, lower)?;
-            word(rt, ", upper")?;
+            word(rt, b", upper")?;
             double(rt, upper)
         }
     }
@@ -132,7 +132,7 @@ fn asked(
     volumes: [f64; MAX_EVENTS],
     settings: [Setting; MAX_HEATERS],
 ) -> io::Result<()> {
-    word(rt, ", volume")?;
+    word(rt, b", volume")?;
     double(rt, volumes[0])?;
     let first = settings[0];
     let p = first.points;
@@ -143,19 +143,19 @@ fn contents(rt: &impl Print, r: Reading) -> io::Result<()> {
     let content = r.content;
     match content {
         Record::Tank(t) => {
-            word(rt, ", tank, layers")?;
+            word(rt, b", tank, layers")?;
             number(rt, t.layers as u64)?;
-            word(rt, ", initial")?;
+            word(rt, b", initial")?;
             double(rt, t.initial)
         }
         Record::Heater(h) => {
-            word(rt, ", heater, rated")?;
+            word(rt, b", heater, rated")?;
             double(rt, h.rated)?;
-            word(rt, ", position")?;
+            word(rt, b", position")?;
             double(rt, h.position)
         }
         Record::Step(p) => {
-            word(rt, ", step, feed")?;
+            word(rt, b", step, feed")?;
             double(rt, p.feed)?;
             let volumes = r.volumes;
             let settings = r.settings;
@@ -167,11 +167,11 @@ fn contents(rt: &impl Print, r: Reading) -> io::Result<()> {
 
 // A record's number, 0 or 11, the position after it, and some of its values.
 pub fn record(rt: &impl Print, r: Reading) -> io::Result<()> {
-    word(rt, "read")?;
+    word(rt, b"read")?;
     let content = r.content;
     number(rt, job_reader::read::number_of(content) as u64)?;
-    word(rt, ": next")?;
+    word(rt, b": next")?;
     number(rt, r.next as u64)?;
     contents(rt, r)?;
-    word(rt, "\n")
+    word(rt, b"\n")
 }

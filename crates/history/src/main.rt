@@ -5,5 +5,5 @@
 use input_window::window::MAX_WINDOW;
 
 fn main(rt: HostRuntime) {
-    job_windows::input::run_input(&rt, "history", true, [0; MAX_WINDOW]);
+    job_windows::input::run_input(&rt, b"history", true, [0; MAX_WINDOW]);
 }

@@ -17,7 +17,7 @@ fn print_record(rt: &(impl Print + Eprint + Clock), bytes: &[u8], job: Job) -> R
     let mut lines = [0; 4096];
     let p = job_run::record::next_record(&mut lines, bytes, job);
     let n = p.length;
-    let s = streams::send(rt, "job", &lines[..n]);
+    let s = streams::send(rt, b"job", &lines[..n]);
     let next = p.job;
     Ran {
         job: next,
@@ -55,7 +55,7 @@ fn run(rt: &(impl Print + Eprint + Clock), bytes: &[u8]) -> Ran
 
 fn main(rt: HostRuntime) {
     let mut buf = [0; 65536];
-    let read = streams::fill(&rt, "job", &mut buf);
+    let read = streams::fill(&rt, b"job", &mut buf);
     if read.failed {
         return;
     }

@@ -15,7 +15,7 @@ const MAX_WINDOWS: usize = 4294967296;
 // Standard input after the bytes held, until the buffer is full or the input ends.
 fn fill_after(
     rt: &(impl Input + Eprint + Clock),
-    program: &str,
+    program: &[u8],
     buf: &mut [u8],
     held: usize,
 ) -> Filled
@@ -30,7 +30,7 @@ fn fill_after(
 // The window that begins with the bytes held: filled, its records run, and what is left of it moved down.
 fn take_window(
     rt: &(impl Input + Print + Eprint + Clock),
-    program: &str,
+    program: &[u8],
     buf: &mut [u8],
     held: usize,
     job: Job,
@@ -65,7 +65,7 @@ fn take_window(
 // says why. `space` is for the window, whatever is in it: an argument's length is known to the proof without being counted out.
 pub fn run_input(
     rt: &(impl Input + Print + Eprint + Clock),
-    program: &str,
+    program: &[u8],
     history: bool,
     space: [u8; MAX_WINDOW],
 ) {
@@ -86,5 +86,6 @@ pub fn run_input(
         job = next;
         held = n.held;
     }
-    let _ = eprintln!(rt; "{program}: standard input: too long");
+    let name = program.escape_ascii();
+    let _ = eprintln!(rt; "{name}: standard input: too long");
 }

@@ -19,7 +19,7 @@ fn next_lines(buf: &mut [u8], bytes: &[u8], job: Job, history: bool) -> Printed
 // The next record: its lines handed on, and the job after it.
 pub fn print_lines(
     rt: &(impl Print + Eprint + Clock),
-    program: &str,
+    program: &[u8],
     bytes: &[u8],
     job: Job,
     history: bool,

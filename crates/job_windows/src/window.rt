@@ -9,7 +9,7 @@ use std::time::Clock;
 // The records of a window, until the job ends, the next one cannot be read here, or a write fails.
 pub fn run_window(
     rt: &(impl Print + Eprint + Clock),
-    program: &str,
+    program: &[u8],
     bytes: &[u8],
     last: bool,
     job: Job,

@@ -5,5 +5,5 @@
 use input_window::window::MAX_WINDOW;
 
 fn main(rt: HostRuntime) {
-    job_windows::input::run_input(&rt, "long_job", false, [0; MAX_WINDOW]);
+    job_windows::input::run_input(&rt, b"long_job", false, [0; MAX_WINDOW]);
 }

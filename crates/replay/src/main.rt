@@ -66,7 +66,7 @@ fn is_same(bytes: &[u8], stored: &[u8]) -> bool
 // A 4-byte length, or more than any part may have where there is none.
 fn next_size(rt: &(impl Input + Eprint + Clock)) -> usize {
     let mut head = [0u8; 4];
-    let got = streams::fill(rt, "replay", &mut head);
+    let got = streams::fill(rt, b"replay", &mut head);
     if got.count < 4 {
         return MAX_BYTES + 1;
     }
@@ -83,7 +83,7 @@ fn ended(t: Tally) -> Tally {
 fn judge(rt: &(impl Input + Eprint + Clock), bytes: &[u8], stored: &mut [u8], t: Tally) -> Tally
     requires { length bytes.now ≤ 65536 }
 {
-    streams::fill(rt, "replay", stored);
+    streams::fill(rt, b"replay", stored);
     let n = line_count(stored) as u64;
     let mut r = t;
     r.cases = t.cases.wrapping_add(1);
@@ -98,7 +98,7 @@ fn judge(rt: &(impl Input + Eprint + Clock), bytes: &[u8], stored: &mut [u8], t:
 fn read_case(rt: &(impl Input + Eprint + Clock), bytes: &mut [u8], t: Tally) -> Tally
     requires { length bytes.old ≤ 65536 }
 {
-    streams::fill(rt, "replay", bytes);
+    streams::fill(rt, b"replay", bytes);
     let size = next_size(rt);
     if size > MAX_BYTES {
         return ended(t);

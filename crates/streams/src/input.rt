@@ -27,7 +27,7 @@ fn read_some(clock: &impl Clock, input: &mut impl Read, buf: &mut [u8]) -> io::R
 }
 
 // Reads standard input until buf is full or the input ends. A read that fails is no end of the input.
-pub fn fill(rt: &(impl Input + Eprint + Clock), program: &str, buf: &mut [u8]) -> Filled
+pub fn fill(rt: &(impl Input + Eprint + Clock), program: &[u8], buf: &mut [u8]) -> Filled
     ensures prefix_len { IsPrefixLen result.count buf.new }
     ensures buf_len_unchanged { length buf.new ≡ length buf.old }
 {

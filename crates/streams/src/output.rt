@@ -26,7 +26,7 @@ fn write_some(rt: &(impl Print + Clock), text: &[u8]) -> io::Result<usize>
 }
 
 // Writes text to standard output, and stops at the first write that fails.
-pub fn send(rt: &(impl Print + Eprint + Clock), program: &str, text: &[u8]) -> Sent
+pub fn send(rt: &(impl Print + Eprint + Clock), program: &[u8], text: &[u8]) -> Sent
     ensures { Carried (length text.now) result }
 {
     let mut count = 0;
@@ -49,7 +49,7 @@ pub fn send(rt: &(impl Print + Eprint + Clock), program: &str, text: &[u8]) -> S
 }
 
 // Whether standard output took all of text; if not, standard error says why.
-pub fn put(rt: &(impl Print + Eprint + Clock), program: &str, text: &[u8]) -> bool {
+pub fn put(rt: &(impl Print + Eprint + Clock), program: &[u8], text: &[u8]) -> bool {
     let s = send(rt, program, text);
     !s.failed
 }

@@ -1,4 +1,5 @@
-// What standard error is told, in one line: the program, the stream and the reason, as `job: standard output: No space left on device`.
+// What standard error is told, in one line: the program, the stream and the reason, as `job: standard output: No space left on device`. A byte of the program's
+// name that is no plain ASCII character is written as its escape.
 use std::io::Write;
 use std::{io, str};
 
@@ -17,21 +18,23 @@ fn reason(text: &str) -> &str {
 }
 
 // A call on the stream has failed. A line that standard error does not take is lost.
-pub fn failed(rt: &impl Eprint, program: &str, stream: &str, why: io::Error) {
+pub fn failed(rt: &impl Eprint, program: &[u8], stream: &str, why: io::Error) {
     let mut room = [0; MAX_WORDS];
     let mut rest = &mut room[..];
     let _ = write!(rest, "{why}");
     let end = MAX_WORDS.saturating_sub(rest.len());
     let text = str::from_utf8(&room[..end]).unwrap_or("");
     let words = reason(text);
-    let _ = eprintln!(rt; "{program}: {stream}: {words}");
+    let name = program.escape_ascii();
+    let _ = eprintln!(rt; "{name}: {stream}: {words}");
 }
 
 // A write has failed, or has taken no byte, of which nothing says why.
-pub fn untaken(rt: &impl Eprint, program: &str, got: io::Result<usize>) {
+pub fn untaken(rt: &impl Eprint, program: &[u8], got: io::Result<usize>) {
     match got {
         Ok(_) => {
-            let _ = eprintln!(rt; "{program}: standard output: no byte was taken");
+            let name = program.escape_ascii();
+            let _ = eprintln!(rt; "{name}: standard output: no byte was taken");
         }
         Err(why) => failed(rt, program, "standard output", why),
     }
