@@ -20,6 +20,7 @@ TARGET = os.path.join(ROOT, "target")
 FOLDER = os.path.join(TARGET, "sample")
 PROGRAMS = ("job", "history", "long_job")
 SAID = re.compile(r"== (\w+)$")  # rt prints it when a crate is done, and what it has to say of it under that
+TAKEN = ": begins with what a check kept in "  # what is kept of a crate came from another folder of this machine
 FAILED = re.compile(r"\w+: (?:failed \(|not run, since )")
 EACH = 3 << 20  # KB of memory for each of the crates that are proved side by side
 
@@ -128,6 +129,11 @@ class Estimate:
         """A crate is done, or what rt did for the one that it named last; of a crate that was there it says nothing."""
         found = SAID.match(line)
         name = found.group(1) if found else None
+        if TAKEN in line:
+            return
+        if line.startswith("only="):
+            # A quick pass over the sources has ended, and the proofs begin.
+            self.since = self.began = time.monotonic()
         if not found and self.last:
             self.took.update([self.last])
         self.last = None

@@ -327,8 +327,14 @@ class Estimates(unittest.TestCase):
     def test_what_was_proved_before_says_nothing_of_speed(self):
         estimate = self.estimate([["mixing"], ["job_history"]])
         self.say(estimate, "== mixing", 1)
+        self.say(estimate, "rt: mixing: begins with what a check kept in another folder", 1)
         self.say(estimate, "== summary", 1)
         self.assertEqual(self.left(estimate, 1), 52)
+
+    def test_the_quick_pass_says_nothing_of_speed(self):
+        estimate = self.estimate([["mixing"], ["job_history"]])
+        self.say(estimate, "only=0 proved=0", 400)
+        self.assertEqual(self.left(estimate, 400), 41 + 52)
 
     def test_in_words(self):
         said = [build.about(seconds) for seconds in (0, 9, 11, 44, 89, 90, 149, 151, 600)]
