@@ -24,7 +24,7 @@ TAKEN = ": begins with what a check kept in "  # what is kept of a crate came fr
 FAILED = re.compile(r"\w+: (?:failed \(|not run, since )")
 EACH = 3 << 20  # KB of memory for each of the crates that are proved side by side
 
-# Seconds for each crate, measured once on a machine of two cores: what counts is how they compare.
+# Seconds for each crate, measured once, with rattle-kit-5b-plain on two cores: what counts is how they compare.
 COSTS = {"numeric": 9, "shorter_sums": 4, "streams": 12, "mixing": 2, "plain_mixing": 9, "group_sums": 6, "layer_joining": 9}
 COSTS.update({"running_group": 8, "rearrange": 9, "cylinder": 4, "draw_off": 10, "layer_filling": 5, "repeating_layers": 4})
 COSTS.update({"refill": 9, "draw_events": 12, "set_points": 3, "layer_losses": 6, "thermal_losses": 8, "heating": 7})
