@@ -2,6 +2,7 @@
 // figures_table), and the Rust gives the same numbers (compare/asymmetric).
 use crate::{answers, print, tanks};
 use set_points::SetPoints;
+use std::io;
 use storage_tank::Stepped;
 use tank_model::{Heater, Setting, Step, TankDesign};
 
@@ -14,20 +15,25 @@ fn dense(layers: usize, volume: f64, initial: f64, timestep: f64) -> TankDesign 
 }
 
 // The next step, on the tank and the report that the one before returned.
-fn after(before: Stepped, a: Step) -> Stepped {
-    answers::step(before.tank, before.report, a)
+fn after(rt: &impl Print, before: Stepped, a: Step) -> io::Result<Stepped> {
+    answers::step(rt, before.tank, before.report, a)
 }
 
-fn draws() {
+fn draws(rt: &impl Print) -> io::Result<()> {
     print::word(
-        b"# Two draws in a step, a draw that spans layers, and one of more than the tank holds\n",
-    );
+        rt,
+        "# Two draws in a step, a draw that spans layers, and one of more than the tank holds\n",
+    )?;
     let mut a = tanks::draws(10.0, 2, 12.0);
     a.volumes[1] = 20.0;
-    let first = answers::first_step(dense(4, 32.0, 50.0, 1.0), a);
-    after(first, tanks::draws(10.0, 1, 40.0));
-    print::word(b"# A feed warmer than the tank: the event ends in a mixing\n");
-    answers::first_step(dense(4, 32.0, 20.0, 1.0), tanks::draws(60.0, 1, 12.0));
+    let first = answers::first_step(rt, dense(4, 32.0, 50.0, 1.0), a)?;
+    after(rt, first, tanks::draws(10.0, 1, 40.0))?;
+    print::word(
+        rt,
+        "# A feed warmer than the tank: the event ends in a mixing\n",
+    )?;
+    answers::first_step(rt, dense(4, 32.0, 20.0, 1.0), tanks::draws(60.0, 1, 12.0))?;
+    Ok(())
 }
 
 // A design with three heaters, as given.
@@ -54,14 +60,16 @@ fn for_three(first: SetPoints, second: SetPoints, third: SetPoints) -> Step {
     a
 }
 
-fn three_heaters() {
+fn three_heaters(rt: &impl Print) -> io::Result<()> {
     print::word(
-        b"# Three heaters given out of order, two thermostats elsewhere, losses charged once and a layer limited\n",
-    );
+        rt,
+        "# Three heaters given out of order, two thermostats elsewhere, losses charged once and a layer limited\n",
+    )?;
     let mut m = dense(4, 200.0, 40.0, 0.5);
     m.standby = 27.0;
     m.ambient = 30.0;
     answers::first_step(
+        rt,
         with_three(
             m,
             tanks::heater(800.0, 0.75),
@@ -73,13 +81,15 @@ fn three_heaters() {
             SetPoints::Both(40.0, 60.0),
             SetPoints::Both(45.0, 47.0),
         ),
-    );
+    )?;
+    Ok(())
 }
 
-fn thermostats() {
+fn thermostats(rt: &impl Print) -> io::Result<()> {
     print::word(
-        b"# A draw, then three heaters given out of order that switch by thermostats in other layers\n",
-    );
+        rt,
+        "# A draw, then three heaters given out of order that switch by thermostats in other layers\n",
+    )?;
     let mut a = for_three(
         SetPoints::Both(20.0, 51.0),
         SetPoints::Both(20.0, 60.0),
@@ -88,6 +98,7 @@ fn thermostats() {
     a.events = 1;
     a.volumes[0] = 12.0;
     answers::first_step(
+        rt,
         with_three(
             dense(4, 32.0, 50.0, 0.5),
             tanks::heater_with(128.0, 0.5, 0.0),
@@ -95,7 +106,8 @@ fn thermostats() {
             tanks::heater_with(32.0, 0.75, 0.25),
         ),
         a,
-    );
+    )?;
+    Ok(())
 }
 
 // A design with one heater.
@@ -116,49 +128,56 @@ fn for_one(points: SetPoints) -> Step {
     a
 }
 
-fn next(before: Stepped, points: SetPoints) -> Stepped {
-    after(before, for_one(points))
+fn next(rt: &impl Print, before: Stepped, points: SetPoints) -> io::Result<Stepped> {
+    after(rt, before, for_one(points))
 }
 
 // A heater that came on, and is kept on by an upper set point alone.
-fn kept_on() -> Stepped {
+fn kept_on(rt: &impl Print) -> io::Result<Stepped> {
     let on = answers::first_step(
+        rt,
         with_one(
             dense(2, 32.0, 40.0, 0.5),
             tanks::heater_with(128.0, 0.0, 0.5),
         ),
         for_one(SetPoints::Both(40.0, 60.0)),
-    );
-    next(on, SetPoints::Upper(60.0))
+    )?;
+    next(rt, on, SetPoints::Upper(60.0))
 }
 
-fn set_points() {
-    print::word(b"# Set points that come and go\n");
-    let off = next(kept_on(), SetPoints::Neither);
-    let still = next(off, SetPoints::Upper(60.0));
-    let above = next(still, SetPoints::Both(41.0, 60.0));
-    next(above, SetPoints::Both(42.0, 43.0));
+fn set_points(rt: &impl Print) -> io::Result<()> {
+    print::word(rt, "# Set points that come and go\n")?;
+    let off = next(rt, kept_on(rt)?, SetPoints::Neither)?;
+    let still = next(rt, off, SetPoints::Upper(60.0))?;
+    let above = next(rt, still, SetPoints::Both(41.0, 60.0))?;
+    next(rt, above, SetPoints::Both(42.0, 43.0))?;
+    Ok(())
 }
 
 // One step of a tank with one heater.
-fn one_step(m: TankDesign, rated: f64, points: SetPoints) {
-    answers::first_step(with_one(m, tanks::heater(rated, 0.0)), for_one(points));
+fn one_step(rt: &impl Print, m: TankDesign, rated: f64, points: SetPoints) -> io::Result<()> {
+    answers::first_step(rt, with_one(m, tanks::heater(rated, 0.0)), for_one(points))?;
+    Ok(())
 }
 
-fn adjusted_alone() {
-    print::word(b"# An adjusted input wide-close to 0 is reported, and nothing is supplied\n");
+fn adjusted_alone(rt: &impl Print) -> io::Result<()> {
+    print::word(
+        rt,
+        "# An adjusted input wide-close to 0 is reported, and nothing is supplied\n",
+    )?;
     one_step(
+        rt,
         dense(1, 16.0, 40.0, 0.5),
         2.9103830456733704e-11,
         SetPoints::Both(50.0, 60.0),
-    );
+    )
 }
 
-fn colder_than_the_room() {
-    print::word(b"# A tank colder than the room loses nothing\n");
+fn colder_than_the_room(rt: &impl Print) -> io::Result<()> {
+    print::word(rt, "# A tank colder than the room loses nothing\n")?;
     let mut m = dense(2, 32.0, 10.0, 0.5);
     m.standby = 27.0;
-    one_step(m, 64.0, SetPoints::Neither);
+    one_step(rt, m, 64.0, SetPoints::Neither)
 }
 
 // A step with one heater's set points, and so many draws of one volume.
@@ -173,38 +192,48 @@ fn drawing(feed: f64, events: usize, volume: f64, points: SetPoints) -> Step {
 }
 
 // Refused for 6, 7 and 8.
-fn checks(first: Stepped) -> Stepped {
-    let many = after(first, drawing(20.0, 65, 1.0, SetPoints::Upper(70.0)));
+fn checks(rt: &impl Print, first: Stepped) -> io::Result<Stepped> {
+    let many = after(rt, first, drawing(20.0, 65, 1.0, SetPoints::Upper(70.0)))?;
     let mut a = drawing(20.0, 2, 16.0, SetPoints::Upper(70.0));
     a.volumes[1] = -1.0;
-    let negative = after(many, a);
-    after(negative, drawing(20.0, 1, 16.0, SetPoints::Lower(50.0)))
+    let negative = after(rt, many, a)?;
+    after(rt, negative, drawing(20.0, 1, 16.0, SetPoints::Lower(50.0)))
 }
 
 // Refused for 9 and 10.
-fn work(before: Stepped) -> Stepped {
-    let unordered = after(before, drawing(1e307, 1, 32.0, SetPoints::Upper(70.0)));
-    after(unordered, drawing(-1e307, 1, 16.0, SetPoints::Upper(70.0)))
+fn work(rt: &impl Print, before: Stepped) -> io::Result<Stepped> {
+    let unordered = after(rt, before, drawing(1e307, 1, 32.0, SetPoints::Upper(70.0)))?;
+    after(
+        rt,
+        unordered,
+        drawing(-1e307, 1, 16.0, SetPoints::Upper(70.0)),
+    )
 }
 
-fn refused() {
-    print::word(b"# Steps refused for 6 to 10 between two accepted ones\n");
+fn refused(rt: &impl Print) -> io::Result<()> {
+    print::word(
+        rt,
+        "# Steps refused for 6 to 10 between two accepted ones\n",
+    )?;
     let first = answers::first_step(
+        rt,
         with_one(dense(2, 32.0, 60.0, 0.5), tanks::heater(640.0, 0.0)),
         drawing(20.0, 1, 16.0, SetPoints::Both(50.0, 70.0)),
-    );
+    )?;
     after(
-        work(checks(first)),
+        rt,
+        work(rt, checks(rt, first)?)?,
         drawing(20.0, 1, 8.0, SetPoints::Upper(70.0)),
-    );
+    )?;
+    Ok(())
 }
 
-pub fn figures() {
-    draws();
-    three_heaters();
-    thermostats();
-    set_points();
-    adjusted_alone();
-    colder_than_the_room();
-    refused();
+pub fn figures(rt: &impl Print) -> io::Result<()> {
+    draws(rt)?;
+    three_heaters(rt)?;
+    thermostats(rt)?;
+    set_points(rt)?;
+    adjusted_alone(rt)?;
+    colder_than_the_room(rt)?;
+    refused(rt)
 }

@@ -2,6 +2,7 @@
 // figures_table), and the judge of the Rust gives the same lines (compare/asymmetric).
 use crate::{answers, print, tanks};
 use set_points::SetPoints;
+use std::io;
 use storage_tank::Stepped;
 use tank_model::{Setting, Step, TankDesign};
 
@@ -69,47 +70,57 @@ fn faulty(heaters: usize, k: usize, feed: f64) -> Step {
 }
 
 // The first n faults of a tank of so many heaters, each in a step of its own.
-fn refused(before: Stepped, heaters: usize, n: usize, feed: f64) -> Stepped {
+fn refused(
+    rt: &impl Print,
+    before: Stepped,
+    heaters: usize,
+    n: usize,
+    feed: f64,
+) -> io::Result<Stepped> {
     let mut s = before;
-    let mut k = 0;
-    while k < n {
-        s = answers::step(s.tank, s.report, faulty(heaters, k, feed));
-        k += 1;
+    for k in 0..n {
+        s = answers::step(rt, s.tank, s.report, faulty(heaters, k, feed))?;
     }
-    s
+    Ok(s)
 }
 
 // Equal set points are accepted, before the faults and after them.
-fn between(m: TankDesign, n: usize) {
+fn between(rt: &impl Print, m: TankDesign, n: usize) -> io::Result<()> {
     let equal = SetPoints::Both(60.0, 60.0);
     let good = asked(m.heaters, 12.0, equal, equal);
-    let first = answers::first_step(m, good);
-    let cold = refused(first, m.heaters, n, 12.0);
-    let unknown = refused(cold, m.heaters, n, 0.0 / 0.0);
-    answers::step(unknown.tank, unknown.report, good);
+    let first = answers::first_step(rt, m, good)?;
+    let cold = refused(rt, first, m.heaters, n, 12.0)?;
+    let unknown = refused(rt, cold, m.heaters, n, 0.0 / 0.0)?;
+    answers::step(rt, unknown.tank, unknown.report, good)?;
+    Ok(())
 }
 
-fn one_heater() {
+fn one_heater(rt: &impl Print) -> io::Result<()> {
     print::word(
-        b"# Faults of one heater's set points, each with a feed of 12 and of not-a-number\n",
-    );
+        rt,
+        "# Faults of one heater's set points, each with a feed of 12 and of not-a-number\n",
+    )?;
     between(
+        rt,
         tanks::with_heaters(2, 32.0, 40.0, 1, tanks::heater(160.0, 0.0)),
         OF_ONE,
-    );
+    )
 }
 
 // The first as given sits in the upper layer, and works last.
-fn two_heaters() {
-    print::word(b"# Faults of two heaters' set points: the first faulty one as given decides\n");
+fn two_heaters(rt: &impl Print) -> io::Result<()> {
+    print::word(
+        rt,
+        "# Faults of two heaters' set points: the first faulty one as given decides\n",
+    )?;
     let mut m = tanks::with_heaters(2, 32.0, 40.0, 2, tanks::heater(160.0, 0.0));
     let mut fitted = m.fitted;
     fitted[0] = tanks::heater(160.0, 0.5);
     m.fitted = fitted;
-    between(m, OF_TWO);
+    between(rt, m, OF_TWO)
 }
 
-pub fn figures() {
-    one_heater();
-    two_heaters();
+pub fn figures(rt: &impl Print) -> io::Result<()> {
+    one_heater(rt)?;
+    two_heaters(rt)
 }

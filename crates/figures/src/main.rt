@@ -14,17 +14,19 @@ mod refusals;
 mod tanks;
 mod top_layer;
 
-fn main() {
-    mixes::figures();
-    mixes::edges();
-    draws::figures();
-    draws::edges();
-    heaters::figures();
-    heaters::edges();
-    asymmetric::figures();
-    faults::figures();
-    top_layer::figures();
-    refusals::make();
-    refusals::step();
-    refusals::between();
+use std::io;
+
+fn main(rt: HostRuntime) -> io::Result<()> {
+    mixes::figures(&rt)?;
+    mixes::edges(&rt)?;
+    draws::figures(&rt)?;
+    draws::edges(&rt)?;
+    heaters::figures(&rt)?;
+    heaters::edges(&rt)?;
+    asymmetric::figures(&rt)?;
+    faults::figures(&rt)?;
+    top_layer::figures(&rt)?;
+    refusals::make(&rt)?;
+    refusals::step(&rt)?;
+    refusals::between(&rt)
 }

@@ -1,46 +1,40 @@
 // What a line is made of: words, numbers in decimal, and doubles as the 16 hexadecimal digits of their bits.
-use libc::STDOUT_FILENO;
 use mixing::limits::MAX_LAYERS;
+use std::io;
 
-pub fn word(w: &[u8]) {
-    io::write_all(STDOUT_FILENO, w);
+pub fn word(rt: &impl Print, w: &str) -> io::Result<()> {
+    rt.print(w)
 }
 
-pub fn number(n: u64) {
-    io::write_all(STDOUT_FILENO, b" ");
-    io::print_decimal(STDOUT_FILENO, n);
+pub fn number(rt: &impl Print, n: u64) -> io::Result<()> {
+    print!(rt; " {n}")
 }
 
-pub fn flag(b: bool) {
-    if b {
-        number(1);
-    } else {
-        number(0);
+pub fn flag(rt: &impl Print, b: bool) -> io::Result<()> {
+    if b { number(rt, 1) } else { number(rt, 0) }
+}
+
+pub fn double(rt: &impl Print, x: f64) -> io::Result<()> {
+    let bits = numeric::bits::bits_of(x);
+    print!(rt; " {bits:016x}")
+}
+
+pub fn doubles(rt: &impl Print, xs: &[f64]) -> io::Result<()> {
+    for x in xs {
+        double(rt, *x)?;
     }
-}
-
-pub fn double(x: f64) {
-    io::write_all(STDOUT_FILENO, b" ");
-    io::print_hex(STDOUT_FILENO, numeric::bits::bits_of(x), 16);
-}
-
-pub fn doubles(xs: &[f64]) {
-    let mut i = 0;
-    while i < xs.len() {
-        double(xs[i]);
-        i += 1;
-    }
+    Ok(())
 }
 
 // The layers of a tank of n: none of a tank that counts more than it has places.
-pub fn layers(n: usize, temps: [f64; MAX_LAYERS]) {
-    word(b"layers");
+pub fn layers(rt: &impl Print, n: usize, temps: [f64; MAX_LAYERS]) -> io::Result<()> {
+    word(rt, "layers")?;
     if n <= MAX_LAYERS {
-        doubles(&temps[..n]);
+        doubles(rt, &temps[..n])?;
     }
-    line_end();
+    line_end(rt)
 }
 
-pub fn line_end() {
-    io::write_all(STDOUT_FILENO, b"\n");
+pub fn line_end(rt: &impl Print) -> io::Result<()> {
+    word(rt, "\n")
 }

@@ -1,5 +1,5 @@
 // A first program over the four calls: it makes a tank, steps it, mixes layers and reads a job, and prints what each call answers. To begin a program of your
-// own, copy this folder and its line of crates.txt, with a name of your own for first_tank, in its proofs too.
+// own, copy this folder and its line of crates.txt, with a name of your own for first_tank.
 // What it must print (`stdout`) is not its own word: the tank and the mixing are figures of document 01 (docs/MODEL.md), and the job (`stdin`) is the second
 // example of docs/JOB_FORMAT.md. day/tests/test_documents.py works every line out again by compare/model.py.
 #![tactic(auto)]
@@ -8,14 +8,14 @@ mod print;
 
 use draw_events::event::MAX_EVENTS;
 use job_reader::reader::read_at;
-use libc::STDIN_FILENO;
 use set_points::SetPoints;
+use std::io;
 use storage_tank::{Report, StorageTank};
 use tank_model::{Heater, HeaterLine, Setting, Step, TankDesign};
 use working_order::MAX_HEATERS;
 
 // Two layers of 16 litres at 40 degrees, and a heater of 160 kW at the bottom.
-fn make() -> StorageTank {
+fn make(rt: &impl Print) -> io::Result<StorageTank> {
     let heater = Heater {
         rated: 160.0,
         position: 0.0,
@@ -34,8 +34,8 @@ fn make() -> StorageTank {
         heaters: 1,
         fitted: [heater; MAX_HEATERS],
     });
-    print::made(made);
-    made.tank
+    print::made(rt, made)?;
+    Ok(made.tank)
 }
 
 // A report before the first step: any will do.
@@ -57,7 +57,7 @@ fn no_report() -> Report {
 }
 
 // An hour, twice, with set points of 50 and 60 degrees; then one whose feed probe has dropped out.
-fn step(tank: StorageTank, report: Report) {
+fn step(rt: &impl Print, tank: StorageTank, report: Report) -> io::Result<()> {
     let setting = Setting {
         points: SetPoints::Both(50.0, 60.0),
     };
@@ -75,34 +75,36 @@ fn step(tank: StorageTank, report: Report) {
     let first = tank.demand_hot_water(report, hour); // layers 45, 45; its heater is on and supplied 160
     let second = first.tank.demand_hot_water(first.report, hour); // layers 50, 50
     let third = second.tank.demand_hot_water(second.report, dropped); // refused with 7; all as in `second`
-    print::stepped(first);
-    print::stepped(second);
-    print::stepped(third);
+    print::stepped(rt, first)?;
+    print::stepped(rt, second)?;
+    print::stepped(rt, third)
 }
 
-fn mix() {
+fn mix(rt: &impl Print) -> io::Result<()> {
     let mut layers = [50.0, 40.0];
     let answer = rearrange::mix::mix(&mut layers[..], 16.0); // MixAnswer::Mixed(1): one round, and layers 45, 45
-    print::mixed(answer);
-    print::doubles(&layers);
+    print::mixed(rt, answer)?;
+    print::doubles(rt, &layers)
 }
 
-fn read(bytes: &[u8]) {
+fn read(rt: &impl Print, bytes: &[u8]) -> io::Result<()> {
     // the position, then what came before it: a tank or not, how many heaters, a step or not
     let tank = read_at(bytes, 0, false, 0, false); // its content is Record::Tank(..); tank.next is 64
     let heater = read_at(bytes, tank.next, true, 0, false); // Record::Heater(..); heater.next is 95
     let step = read_at(bytes, heater.next, true, 1, false); // Record::Step(..); step.next is 136, the end
     let none = read_at(bytes, step.next, true, 1, true); // Record::Refused; none.next is 136 again
-    print::record(tank);
-    print::record(heater);
-    print::record(step);
-    print::record(none);
+    print::record(rt, tank)?;
+    print::record(rt, heater)?;
+    print::record(rt, step)?;
+    print::record(rt, none)
 }
 
-fn main() {
-    step(make(), no_report());
-    mix();
-    let mut buf = io::buffer();
-    let n = io::read_full(STDIN_FILENO, &mut buf);
-    read(&buf[..n]);
+fn main(rt: HostRuntime) -> io::Result<()> {
+    let tank = make(&rt)?;
+    step(&rt, tank, no_report())?;
+    mix(&rt)?;
+    let mut buf = [0; 4096];
+    let filled = streams::fill(&rt, "first_tank", &mut buf);
+    let n = filled.count;
+    read(&rt, &buf[..n])
 }

@@ -1,177 +1,177 @@
 // What the calls answer, in words and numbers, a line for each call and one for its layers.
 use draw_events::event::MAX_EVENTS;
 use job_records::{Reading, Record};
-use libc::STDOUT_FILENO;
 use mixing::MixAnswer;
 use mixing::limits::MAX_LAYERS;
 use set_points::SetPoints;
+use std::io;
 use storage_tank::{Made, Stepped};
 use tank_model::{HeaterLine, Setting};
 use working_order::MAX_HEATERS;
 
-pub fn word(w: &[u8]) {
-    io::write_all(STDOUT_FILENO, w);
+pub fn word(rt: &impl Print, w: &str) -> io::Result<()> {
+    rt.print(w)
 }
 
-pub fn number(n: u64) {
-    word(b" ");
-    io::print_decimal(STDOUT_FILENO, n);
+pub fn number(rt: &impl Print, n: u64) -> io::Result<()> {
+    print!(rt; " {n}")
 }
 
 // A whole number in decimal (-0 as 0), any other double as the 16 hexadecimal digits of its bits.
-pub fn double(x: f64) {
+pub fn double(rt: &impl Print, x: f64) -> io::Result<()> {
     if x > -1.0 {
         if x < 18446744073709551616.0 {
-            let n = std::num::truncating_f64_to_u64(x);
+            let n = std::num::saturating_f64_to_u64(x);
             if std::num::nearest_u64_to_f64(n) == x {
-                number(n);
-                return;
+                return number(rt, n);
             }
         }
     }
-    word(b" ");
-    io::print_hex(STDOUT_FILENO, numeric::bits::bits_of(x), 16);
+    let bits = numeric::bits::bits_of(x);
+    print!(rt; " {bits:016x}")
 }
 
-pub fn doubles(xs: &[f64]) {
-    let mut i = 0;
-    while i < xs.len() {
-        double(xs[i]);
-        i += 1;
+pub fn doubles(rt: &impl Print, xs: &[f64]) -> io::Result<()> {
+    for x in xs {
+        double(rt, *x)?;
     }
-    word(b"\n");
+    word(rt, "\n")
 }
 
 // The layers of a tank of n, the bottom first: none of a tank that counts more than it has places.
-fn layers(n: usize, temps: [f64; MAX_LAYERS]) {
+fn layers(rt: &impl Print, n: usize, temps: [f64; MAX_LAYERS]) -> io::Result<()> {
     if n > MAX_LAYERS {
-        return;
+        return Ok(());
     }
-    word(b"  layers");
-    doubles(&temps[..n]);
+    word(rt, "  layers")?;
+    doubles(rt, &temps[..n])
 }
 
 // The number of the refusal, 0 where accepted.
-pub fn made(m: Made) {
-    word(b"make");
-    number(m.number as u64);
-    word(b"\n");
+pub fn made(rt: &impl Print, m: Made) -> io::Result<()> {
+    word(rt, "make")?;
+    number(rt, m.number as u64)?;
+    word(rt, "\n")?;
     let t = m.tank;
     let temps = t.temps;
-    layers(t.layers, temps);
+    layers(rt, t.layers, temps)
 }
 
-fn heater(x: HeaterLine) {
-    word(b"  heater: flag");
-    number(x.flag as u64);
-    word(b", adjusted");
-    double(x.adjusted);
-    word(b", supplied");
-    double(x.supplied);
-    word(b", losses");
-    double(x.losses);
-    word(b", rounds");
-    number(x.rounds as u64);
-    word(b"\n");
+fn heater(rt: &impl Print, x: HeaterLine) -> io::Result<()> {
+    word(rt, "  heater: flag")?;
+    number(rt, x.flag as u64)?;
+    word(rt, ", adjusted")?;
+    double(rt, x.adjusted)?;
+    word(rt, ", supplied")?;
+    double(rt, x.supplied)?;
+    word(rt, ", losses")?;
+    double(rt, x.losses)?;
+    word(rt, ", rounds")?;
+    number(rt, x.rounds as u64)?;
+    word(rt, "\n")
 }
 
 // With the line of the first heater.
-pub fn stepped(s: Stepped) {
+pub fn stepped(rt: &impl Print, s: Stepped) -> io::Result<()> {
     let t = s.tank;
     let r = s.report;
-    word(b"step");
-    number(s.number as u64);
-    word(b": energy");
-    double(r.energy);
-    word(b", volume");
-    double(r.used);
-    word(b", average");
-    double(r.average);
-    word(b", recoverable");
-    double(r.recoverable);
-    word(b"\n");
+    word(rt, "step")?;
+    number(rt, s.number as u64)?;
+    word(rt, ": energy")?;
+    double(rt, r.energy)?;
+    word(rt, ", volume")?;
+    double(rt, r.used)?;
+    word(rt, ", average")?;
+    double(rt, r.average)?;
+    word(rt, ", recoverable")?;
+    double(rt, r.recoverable)?;
+    word(rt, "\n")?;
     let temps = t.temps;
-    layers(t.layers, temps);
+    layers(rt, t.layers, temps)?;
     let lines = r.lines;
-    heater(lines[0]);
+    heater(rt, lines[0])
 }
 
-pub fn mixed(a: MixAnswer) {
+pub fn mixed(rt: &impl Print, a: MixAnswer) -> io::Result<()> {
     match a {
         MixAnswer::Mixed(rounds) => {
-            word(b"mix 0: rounds");
-            number(rounds as u64);
+            word(rt, "mix 0: rounds")?;
+            number(rt, rounds as u64)?;
         }
         MixAnswer::Refused(n) => {
-            word(b"mix");
-            number(n as u64);
+            word(rt, "mix")?;
+            number(rt, n as u64)?;
         }
     }
-    word(b"\n  layers");
+    word(rt, "\n  layers")
 }
 
-fn points(p: SetPoints) {
+fn points(rt: &impl Print, p: SetPoints) -> io::Result<()> {
     match p {
-        SetPoints::Neither => {}
+        SetPoints::Neither => Ok(()),
         SetPoints::Lower(lower) => {
-            word(b", lower");
-            double(lower);
+            word(rt, ", lower")?;
+            double(rt, lower)
         }
         SetPoints::Upper(upper) => {
-            word(b", upper");
-            double(upper);
+            word(rt, ", upper")?;
+            double(rt, upper)
         }
         SetPoints::Both(lower, upper) => {
-            word(b", lower");
-            double(lower);
-            word(b", upper");
-            double(upper);
+            word(rt, ", lower")?;
+            double(rt, lower)?;
+            word(rt, ", upper")?;
+            double(rt, upper)
         }
     }
 }
 
 // A step's first volume and its first heater's set points.
-fn asked(volumes: [f64; MAX_EVENTS], settings: [Setting; MAX_HEATERS]) {
-    word(b", volume");
-    double(volumes[0]);
+fn asked(
+    rt: &impl Print,
+    volumes: [f64; MAX_EVENTS],
+    settings: [Setting; MAX_HEATERS],
+) -> io::Result<()> {
+    word(rt, ", volume")?;
+    double(rt, volumes[0])?;
     let first = settings[0];
     let p = first.points;
-    points(p);
+    points(rt, p)
 }
 
-fn contents(r: Reading) {
+fn contents(rt: &impl Print, r: Reading) -> io::Result<()> {
     let content = r.content;
     match content {
         Record::Tank(t) => {
-            word(b", tank, layers");
-            number(t.layers as u64);
-            word(b", initial");
-            double(t.initial);
+            word(rt, ", tank, layers")?;
+            number(rt, t.layers as u64)?;
+            word(rt, ", initial")?;
+            double(rt, t.initial)
         }
         Record::Heater(h) => {
-            word(b", heater, rated");
-            double(h.rated);
-            word(b", position");
-            double(h.position);
+            word(rt, ", heater, rated")?;
+            double(rt, h.rated)?;
+            word(rt, ", position")?;
+            double(rt, h.position)
         }
         Record::Step(p) => {
-            word(b", step, feed");
-            double(p.feed);
+            word(rt, ", step, feed")?;
+            double(rt, p.feed)?;
             let volumes = r.volumes;
             let settings = r.settings;
-            asked(volumes, settings);
+            asked(rt, volumes, settings)
         }
-        Record::Refused => {}
+        Record::Refused => Ok(()),
     }
 }
 
 // A record's number, 0 or 11, the position after it, and some of its values.
-pub fn record(r: Reading) {
-    word(b"read");
+pub fn record(rt: &impl Print, r: Reading) -> io::Result<()> {
+    word(rt, "read")?;
     let content = r.content;
-    number(job_reader::read::number_of(content) as u64);
-    word(b": next");
-    number(r.next as u64);
-    contents(r);
-    word(b"\n");
+    number(rt, job_reader::read::number_of(content) as u64)?;
+    word(rt, ": next")?;
+    number(rt, r.next as u64)?;
+    contents(rt, r)?;
+    word(rt, "\n")
 }

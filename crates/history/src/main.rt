@@ -4,6 +4,6 @@
 
 use input_window::window::MAX_WINDOW;
 
-fn main() {
-    job_windows::input::run_input(b"history", true, [0; MAX_WINDOW]);
+fn main(rt: HostRuntime) {
+    job_windows::input::run_input(&rt, "history", true, [0; MAX_WINDOW]);
 }

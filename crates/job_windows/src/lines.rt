@@ -4,6 +4,7 @@ ghost use Rattle.job_model.specs.Handed.{Sends};
 ghost use Rattle.job_windows.specs.Kinds.{lines_of};
 
 use job_model::{Job, Printed, Ran};
+use std::time::Clock;
 
 fn next_lines(buf: &mut [u8], bytes: &[u8], job: Job, history: bool) -> Printed
     requires { Countable job }
@@ -16,14 +17,20 @@ fn next_lines(buf: &mut [u8], bytes: &[u8], job: Job, history: bool) -> Printed
 }
 
 // The next record: its lines handed on, and the job after it.
-pub fn print_lines(program: &[u8], bytes: &[u8], job: Job, history: bool) -> Ran
+pub fn print_lines(
+    rt: &(impl Print + Eprint + Clock),
+    program: &str,
+    bytes: &[u8],
+    job: Job,
+    history: bool,
+) -> Ran
     requires { Countable job }
     ensures { Sends (lines_of history bytes.now job) result }
 {
-    let mut lines = io::buffer();
+    let mut lines = [0; 4096];
     let p = next_lines(&mut lines, bytes, job, history);
     let n = p.length;
-    let s = streams::send(program, &lines[..n]);
+    let s = streams::send(rt, program, &lines[..n]);
     let next = p.job;
     Ran {
         job: next,

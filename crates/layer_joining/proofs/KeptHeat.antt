@@ -1,7 +1,7 @@
 -- Proves when the heat of a running group, kept from the pair before, serves at its new temperature (01, Mix): where each layer's volume × temperature is what it
 -- was. One product tells, where the volumes are equal; otherwise the temperature must be the same.
 use mathlib.Core.Path.{◌≡◌, sym, ◌∙◌, subst}
-use mathlib.Core.Logic.{◌⊎◌, ⊎_elim, inl, inr}
+use mathlib.Core.Logic.{⊎_elim, inl, inr}
 use mathlib.Core.Bool.{true, not, true≢false}
 use mathlib.Core.List.{List}
 use Prim.Native.Nat.{ℕ, ◌+◌, ◌-◌, ◌≤◌, ◌<◌}

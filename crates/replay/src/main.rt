@@ -6,7 +6,8 @@ ghost use Rattle.std.specs.Prelude.{◌≡◌, ◌≤◌, length, drop};
 ghost use Rattle.job_model.specs.Job.{job_text};
 ghost use Rattle.replay.specs.Same.{same_text, begins_with};
 
-use libc::{STDIN_FILENO, STDOUT_FILENO};
+use std::io;
+use std::time::Clock;
 
 const MAX_BYTES: usize = 65536;
 
@@ -38,15 +39,7 @@ fn begins_with(stored: &[u8], at: usize, text: &[u8]) -> bool
 }
 
 fn line_count(stored: &[u8]) -> usize {
-    let mut n = 0;
-    let mut i = 0;
-    while i < stored.len() {
-        if stored[i] == b'\n' {
-            n += 1;
-        }
-        i += 1;
-    }
-    n
+    stored.iter().filter(|b| **b == b'\n').count()
 }
 
 // What the job prints is the stored lines, all of them and no more.
@@ -57,7 +50,7 @@ fn is_same(bytes: &[u8], stored: &[u8]) -> bool
     let mut job = job_run::start::start();
     let mut at = 0;
     while !job.ended {
-        let mut lines = io::buffer();
+        let mut lines = [0; 4096];
         let p = job_run::record::next_record(&mut lines, bytes, job);
         let n = p.length;
         if !begins_with(stored, at, &lines[..n]) {
@@ -71,10 +64,10 @@ fn is_same(bytes: &[u8], stored: &[u8]) -> bool
 }
 
 // A 4-byte length, or more than any part may have where there is none.
-fn next_size() -> usize {
+fn next_size(rt: &(impl Input + Eprint + Clock)) -> usize {
     let mut head = [0u8; 4];
-    let got = io::read_full(STDIN_FILENO, &mut head);
-    if got < 4 {
+    let got = streams::fill(rt, "replay", &mut head);
+    if got.count < 4 {
         return MAX_BYTES + 1;
     }
     job_records::bytes::u32_at(&head, 0) as usize
@@ -87,60 +80,56 @@ fn ended(t: Tally) -> Tally {
 }
 
 // The case of a job whose lines are read into `stored`.
-fn judge(bytes: &[u8], stored: &mut [u8], t: Tally) -> Tally
+fn judge(rt: &(impl Input + Eprint + Clock), bytes: &[u8], stored: &mut [u8], t: Tally) -> Tally
     requires { length bytes.now ≤ 65536 }
 {
-    io::read_full(STDIN_FILENO, stored);
+    streams::fill(rt, "replay", stored);
     let n = line_count(stored) as u64;
     let mut r = t;
-    r.cases = std::num::wrapping_add_u64(t.cases, 1);
-    r.lines = std::num::wrapping_add_u64(t.lines, n);
+    r.cases = t.cases.wrapping_add(1);
+    r.lines = t.lines.wrapping_add(n);
     if !is_same(bytes, stored) {
-        r.differ = std::num::wrapping_add_u64(t.differ, 1);
+        r.differ = t.differ.wrapping_add(1);
     }
     r
 }
 
 // The case of a job that is read into `bytes`.
-fn read_case(bytes: &mut [u8], t: Tally) -> Tally
+fn read_case(rt: &(impl Input + Eprint + Clock), bytes: &mut [u8], t: Tally) -> Tally
     requires { length bytes.old ≤ 65536 }
 {
-    io::read_full(STDIN_FILENO, bytes);
-    let size = next_size();
+    streams::fill(rt, "replay", bytes);
+    let size = next_size(rt);
     if size > MAX_BYTES {
         return ended(t);
     }
-    let mut stored = io::large_buffer();
-    judge(bytes, &mut stored[..size], t)
+    let mut stored = [0; MAX_BYTES];
+    judge(rt, bytes, &mut stored[..size], t)
 }
 
-fn next_case(t: Tally) -> Tally {
-    let size = next_size();
+fn next_case(rt: &(impl Input + Eprint + Clock), t: Tally) -> Tally {
+    let size = next_size(rt);
     if size > MAX_BYTES {
         return ended(t);
     }
-    let mut bytes = io::large_buffer();
-    read_case(&mut bytes[..size], t)
+    let mut bytes = [0; MAX_BYTES];
+    read_case(rt, &mut bytes[..size], t)
 }
 
-fn main() {
+fn main(rt: HostRuntime) -> io::Result<()> {
     let mut t = Tally {
         cases: 0,
         lines: 0,
         differ: 0,
         ended: false,
     };
-    let mut records = MAX_BYTES;
-    while 0 < records {
-        records -= 1;
+    for _ in 0..MAX_BYTES {
         if !t.ended {
-            t = next_case(t);
+            t = next_case(&rt, t);
         }
     }
-    io::print_decimal(STDOUT_FILENO, t.cases);
-    io::write_all(STDOUT_FILENO, b" jobs, ");
-    io::print_decimal(STDOUT_FILENO, t.lines);
-    io::write_all(STDOUT_FILENO, b" lines, ");
-    io::print_decimal(STDOUT_FILENO, t.differ);
-    io::write_all(STDOUT_FILENO, b" jobs differ\n");
+    println!(rt;
+        "{} jobs, {} lines, {} jobs differ",
+        t.cases, t.lines, t.differ
+    )
 }

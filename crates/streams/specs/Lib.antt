@@ -1,2 +1,2 @@
--- The definitions of `streams`: what became of a text.
+-- The definitions of `streams`: what became of a buffer, and of a text.
 pub mod Whole

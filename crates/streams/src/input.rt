@@ -1,48 +1,54 @@
 // Standard input, read until the buffer is full or the input ends.
 ghost use Rattle.std.specs.Prelude.{◌≡◌, length};
-ghost use Rattle.io.specs.Counts.{IsPrefixLen};
+ghost use Rattle.std.specs.Io.{ReadsAtMost};
+ghost use Rattle.streams.specs.Whole.{IsPrefixLen};
 
 use crate::Filled;
-use libc::STDIN_FILENO;
+use std::io;
+use std::io::Read;
+use std::time::Clock;
 
-// One read, tried again while it is interrupted or nothing has come yet. An answer below 0: it failed, and errno says why.
-fn read_some(buf: &mut [u8]) -> isize {
-    let mut tries = crate::wait::TRIES;
-    loop {
-        let got = libc::read(STDIN_FILENO, buf);
-        if got >= 0 {
-            return got;
+// One read, tried again while it is interrupted or nothing has come yet.
+fn read_some(clock: &impl Clock, input: &mut impl Read, buf: &mut [u8]) -> io::Result<usize>
+    ensures { ReadsAtMost result buf.new }
+{
+    for _ in 0..crate::wait::TRIES {
+        let got = input.read(buf);
+        match got {
+            Ok(_) => return got,
+            Err(why) => {
+                if !crate::wait::again(clock, &why) {
+                    return got;
+                }
+            }
         }
-        if tries == 0 {
-            return got;
-        }
-        if !crate::wait::again() {
-            return got;
-        }
-        tries -= 1;
     }
+    input.read(buf)
 }
 
 // Reads standard input until buf is full or the input ends. A read that fails is no end of the input.
-pub fn fill(program: &[u8], buf: &mut [u8]) -> Filled
+pub fn fill(rt: &(impl Input + Eprint + Clock), program: &str, buf: &mut [u8]) -> Filled
     ensures prefix_len { IsPrefixLen result.count buf.new }
     ensures buf_len_unchanged { length buf.new ≡ length buf.old }
 {
+    let mut input = rt.reader();
     let mut count = 0;
     while count < buf.len() {
-        let got = read_some(&mut buf[count..]);
-        if got < 0 {
-            crate::say::failed(program, b"standard input");
-            return Filled {
-                count,
-                failed: true,
-            };
+        match read_some(rt, &mut input, &mut buf[count..]) {
+            Ok(come) => {
+                if come == 0 {
+                    break;
+                }
+                count += come;
+            }
+            Err(why) => {
+                crate::say::failed(rt, program, "standard input", why);
+                return Filled {
+                    count,
+                    failed: true,
+                };
+            }
         }
-        let come = io::count(got, &buf[count..]);
-        if come == 0 {
-            break;
-        }
-        count += come;
     }
     Filled {
         count,

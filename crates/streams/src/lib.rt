@@ -1,6 +1,6 @@
 // Standard input and standard output, carried to their end. A call that moves a part is followed by one for the rest; one that is interrupted, or finds
 // nothing to read or no room for now, is tried again; one that fails ends the matter, and standard error says why. What the system does is assumed in one
-// place, the contracts of libc and os, which say no more than that a call answers -1 or a count within what it was handed.
+// place, std's contracts of a read and a write, which say no more than that a call fails or answers a count within what it was handed.
 #![tactic(auto)]
 
 mod input;

@@ -1,39 +1,40 @@
 // Standard output, written until all of a text is taken.
 ghost use Rattle.std.specs.Prelude.{length};
+ghost use Rattle.std.specs.Io.{WritesAtMost};
 ghost use Rattle.streams.specs.Whole.{Carried};
 
 use crate::Sent;
-use libc::STDOUT_FILENO;
+use std::io;
+use std::time::Clock;
 
-// One write, tried again while it is interrupted or there is no room for now. An answer below 0: it failed, and errno says why.
-fn write_some(text: &[u8]) -> isize {
-    let mut tries = crate::wait::TRIES;
-    loop {
-        let got = libc::write(STDOUT_FILENO, text);
-        if got >= 0 {
-            return got;
+// One write, tried again while it is interrupted or there is no room for now.
+fn write_some(rt: &(impl Print + Clock), text: &[u8]) -> io::Result<usize>
+    ensures { WritesAtMost result text.now }
+{
+    for _ in 0..crate::wait::TRIES {
+        let got = rt.write_some(text);
+        match got {
+            Ok(_) => return got,
+            Err(why) => {
+                if !crate::wait::again(rt, &why) {
+                    return got;
+                }
+            }
         }
-        if tries == 0 {
-            return got;
-        }
-        if !crate::wait::again() {
-            return got;
-        }
-        tries -= 1;
     }
+    rt.write_some(text)
 }
 
 // Writes text to standard output, and stops at the first write that fails.
-pub fn send(program: &[u8], text: &[u8]) -> Sent
+pub fn send(rt: &(impl Print + Eprint + Clock), program: &str, text: &[u8]) -> Sent
     ensures { Carried (length text.now) result }
 {
     let mut count = 0;
     while count < text.len() {
-        let rest = &text[count..];
-        let got = write_some(rest);
-        let taken = io::count(got, rest);
+        let got = write_some(rt, &text[count..]);
+        let taken = got.unwrap_or(0);
         if taken == 0 {
-            crate::say::untaken(program, got);
+            crate::say::untaken(rt, program, got);
             return Sent {
                 count,
                 failed: true,
@@ -48,7 +49,7 @@ pub fn send(program: &[u8], text: &[u8]) -> Sent
 }
 
 // Whether standard output took all of text; if not, standard error says why.
-pub fn put(program: &[u8], text: &[u8]) -> bool {
-    let s = send(program, text);
+pub fn put(rt: &(impl Print + Eprint + Clock), program: &str, text: &[u8]) -> bool {
+    let s = send(rt, program, text);
     !s.failed
 }

@@ -1,42 +1,38 @@
 // What standard error is told, in one line: the program, the stream and the reason, as `job: standard output: No space left on device`.
-ghost use Rattle.std.specs.Prelude.{◌≤◌, length};
-ghost use Rattle.io.specs.Counts.{IsPrefixLen};
+use std::io::Write;
+use std::{io, str};
 
-use libc::STDERR_FILENO;
+// The system's words for an error have at most 49 bytes; std writes the error's number after them.
+const MAX_WORDS: usize = 128;
 
-// Puts text into line from index `from` on, as far as there is room, and answers where it ends.
-fn append(line: &mut [u8], from: usize, text: &[u8]) -> usize
-    requires { from ≤ length line.old }
-    ensures { IsPrefixLen result line.new }
-{
-    let mut end = from;
-    let mut i = 0;
-    while i < text.len() {
-        if end >= line.len() {
-            break;
+// What begins the number, as in `No space left on device (os error 28)`.
+const NUMBER: &str = " (os error ";
+
+// The words alone.
+fn reason(text: &str) -> &str {
+    match text.rsplit_once(NUMBER) {
+        Some((words, _)) => words,
+        None => text,
+    }
+}
+
+// A call on the stream has failed. A line that standard error does not take is lost.
+pub fn failed(rt: &impl Eprint, program: &str, stream: &str, why: io::Error) {
+    let mut room = [0; MAX_WORDS];
+    let mut rest = &mut room[..];
+    let _ = write!(rest, "{why}");
+    let end = MAX_WORDS.saturating_sub(rest.len());
+    let text = str::from_utf8(&room[..end]).unwrap_or("");
+    let words = reason(text);
+    let _ = eprintln!(rt; "{program}: {stream}: {words}");
+}
+
+// A write has failed, or has taken no byte, of which nothing says why.
+pub fn untaken(rt: &impl Eprint, program: &str, got: io::Result<usize>) {
+    match got {
+        Ok(_) => {
+            let _ = eprintln!(rt; "{program}: standard output: no byte was taken");
         }
-        line[end] = text[i];
-        end += 1;
-        i += 1;
+        Err(why) => failed(rt, program, "standard output", why),
     }
-    end
-}
-
-// A call on the stream has failed: why is what errno says, which is read before anything is written.
-pub fn failed(program: &[u8], stream: &[u8]) {
-    let mut line = [0u8; 128];
-    let name = append(&mut line, 0, program);
-    let colon = append(&mut line, name, b": ");
-    let n = append(&mut line, colon, stream);
-    os::fail(&line[..n]);
-}
-
-// A write has answered got, and got is not above 0. At 0 errno says nothing.
-pub fn untaken(program: &[u8], got: isize) {
-    if got < 0 {
-        failed(program, b"standard output");
-        return;
-    }
-    io::write_all(STDERR_FILENO, program);
-    io::write_all(STDERR_FILENO, b": standard output: no byte was taken\n");
 }

@@ -1,6 +1,5 @@
 -- `are_finite` meets its contract. The loop's invariant: each place passed is finite.
 use mathlib.Core.Path.{sym, ◌∙◌}
-use Prim.Native.Nat.{◌-◌}
 use borrow.Author.Tests.{not-true, not-false}
 use Rattle.numeric.specs.Holds.{passed_start, passed_next, passed_fails, passed_end}
 use Rattle.cylinder.specs.Layers.{all_finite}

@@ -1,5 +1,4 @@
 -- `heat_in_order` meets its contract (01, Step). The loop's invariant: the turns that are left, from where those worked have come to, end as the whole does.
-use Prim.Native.Nat.{◌-◌}
 use native.Mathlib.Omega.{arith}
 use Rattle.heater_turns.proofs.TurnLoop.{none_worked, all_worked, one_worked, last_worked}
 use borrow.Author.Rules.{rules}

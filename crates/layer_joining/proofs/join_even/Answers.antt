@@ -1,8 +1,7 @@
 -- `running::join_even` meets its contract (01, Mix): by one product.
 use mathlib.Core.Path.{◌≡◌}
 use mathlib.Core.Bool.{true}
-use lib.Dec.{T}
-use lib.Ieee.{Float, binary64, fits}
+use lib.Ieee.{Float}
 use lib.Ieee.Scale.{finite}
 use denote.Floats.{passes}
 use Rattle.numeric.specs.Double.{◌⊛◌, ◌⊘◌}

@@ -1,8 +1,7 @@
 -- `running::join_even_plain` meets its contract (01, Mix): by one product, and by a total that is known.
 use mathlib.Core.Path.{◌≡◌, sym}
 use mathlib.Core.Bool.{true}
-use lib.Dec.{T}
-use lib.Ieee.{Float, binary64, fits}
+use lib.Ieee.{Float}
 use lib.Ieee.Scale.{finite}
 use denote.Floats.{passes}
 use Rattle.numeric.specs.Double.{◌⊛◌, ◌⊘◌}

@@ -1,7 +1,6 @@
 -- `rearrange::rearrange_temperatures` meets its contract (01, Mix). The loop's invariant: after k rounds, none of which gave order, the rounds left give the whole mixing.
 use mathlib.Core.Path.{refl, sym, ap, ◌∙◌}
 use mathlib.Core.Bool.{true, false}
-use Prim.Native.Nat.{◌-◌}
 use native.Mathlib.Omega.{arith}
 use native.Mathlib.Nat.{sub-zero}
 use borrow.Author.Tests.{not-false}

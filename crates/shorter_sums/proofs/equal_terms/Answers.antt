@@ -1,6 +1,5 @@
 -- `sum2::equal_terms` meets its contract (01, Arithmetic underneath). The loop's invariant: a is the Sum2 of k terms, where it is finite.
 use mathlib.Core.Path.{◌≡◌}
-use Prim.Native.Nat.{◌-◌}
 use native.Mathlib.Omega.{arith}
 use denote.Floats.{passes}
 use Rattle.shorter_sums.proofs.FastTwoSum.{equals_more}

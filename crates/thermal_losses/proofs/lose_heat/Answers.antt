@@ -1,6 +1,5 @@
 -- `lose_heat` meets its contract. The loop's invariant: the layers and the charges passed are done, those left are as they were, and the
 -- accumulator has the losses below k.
-use Prim.Native.Nat.{◌-◌}
 use native.Mathlib.Nat.{le_refl}
 use mathlib.Core.Path.{ap, ◌∙◌}
 use Rattle.numeric.specs.Iterate.{rest_start, rest_next, rest_end}

@@ -1,5 +1,4 @@
 -- `sum_surplus` meets its contract. The loop's invariant: adding the layers left gives the whole.
-use Prim.Native.Nat.{◌-◌}
 use native.Mathlib.Omega.{arith}
 use Rattle.numeric.specs.Iterate.{span_start, span_next, span_end}
 use Rattle.thermal_losses.specs.Losses.{warmed, loss_at}

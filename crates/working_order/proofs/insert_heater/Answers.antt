@@ -1,8 +1,7 @@
 -- `insert_heater` meets its contract. The loop's invariant: those worked before x have moved down, and inserting x among those left gives the whole.
 use mathlib.Core.Path.{sym, ◌∙◌}
-use Prim.Native.Nat.{◌+◌, ◌-◌}
+use Prim.Native.Nat.{◌+◌}
 use native.Mathlib.Omega.{arith}
-use Rattle.working_order.specs.Order.{comes_before}
 use Rattle.working_order.proofs.Insert.{inserting_start, inserting_next, inserting_stop, inserting_end}
 use borrow.Author.Rules.{rules}
 use Rattle.working_order.proofs.insert_heater.Goals as goal

@@ -1,5 +1,4 @@
 -- `event::draw_events` meets its contract (01, Draw; Refill; refusals 9 and 10). The loop's invariant: the events left, from where those before them have come to, give what all of them give.
-use Prim.Native.Nat.{◌-◌}
 use native.Mathlib.Omega.{arith}
 use native.Mathlib.Nat.{sub-zero}
 use Rattle.draw_events.proofs.Worked.{events_next, events_refused, events_end}

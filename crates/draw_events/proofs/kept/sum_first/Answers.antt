@@ -1,5 +1,4 @@
 -- `kept::sum_first` meets its contract (01, Draw). The loop's invariant: the accumulator has the layers below k, and what is left gives the whole sum.
-use Prim.Native.Nat.{◌-◌}
 use Rattle.numeric.specs.Iterate.{rest_start, rest_next, rest_end}
 use Rattle.draw_events.specs.Kept.{sum_of_first}
 use Rattle.draw_events.proofs.kept.sum_first.Goals as goal

@@ -1,5 +1,4 @@
 -- `kept::volume_used` meets its contract (01, Draw). The loop's invariant: the accumulator has the layers below k, and what is left gives the whole sum.
-use Prim.Native.Nat.{◌-◌}
 use Rattle.numeric.specs.Iterate.{span_start, span_next, span_end}
 use Rattle.numeric.specs.Sum2.{sum2_iterate}
 use Rattle.draw_off.specs.Draw.{volume_used}

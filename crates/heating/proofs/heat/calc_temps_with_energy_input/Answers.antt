@@ -1,5 +1,4 @@
 -- `heat::calc_temps_with_energy_input` meets its contract. The loop's invariant: heating the layers left gives the whole.
-use Prim.Native.Nat.{◌-◌}
 use Rattle.numeric.specs.Iterate.{rest_start, rest_next, rest_end}
 use Rattle.heating.specs.Heat.{heated}
 use Rattle.heating.proofs.heat.calc_temps_with_energy_input.Goals as goal

@@ -1,6 +1,6 @@
 -- `facts::facts_in_order` meets its contract (01, Turn). The loop's invariant: the first k turns are told, in the first k places.
 use mathlib.Core.Path.{◌≡◌, refl, sym, ap, ◌∙◌}
-use Prim.Native.Nat.{ℕ, ◌-◌}
+use Prim.Native.Nat.{ℕ}
 use native.Mathlib.Omega.{arith}
 use mathlib.Core.List.{List}
 use lib.ListN.{length}

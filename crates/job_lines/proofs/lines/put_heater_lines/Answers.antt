@@ -1,6 +1,5 @@
 -- `lines::put_heater_lines` meets its contract (01, Job). The loop's invariant: the lines of the first k heaters are put.
 use mathlib.Core.Path.{◌≡◌}
-use Prim.Native.Nat.{◌-◌}
 use native.Mathlib.Omega.{arith}
 use Rattle.job_lines.specs.Put.{put_nothing, put_then, put_length}
 use Rattle.job_lines.specs.Lines.{joined, joined_more, ordered_line, heater_lines}

@@ -1,6 +1,5 @@
 -- `lines::put_layers` meets its contract (01, Job). The loop's invariant: the text of the first k layers is put.
 use mathlib.Core.Path.{◌≡◌}
-use Prim.Native.Nat.{◌-◌}
 use native.Mathlib.Omega.{arith}
 use Rattle.job_lines.specs.Put.{put_nothing, put_then, put_length}
 use Rattle.job_lines.specs.Lines.{joined, joined_more, layer_text, layers_text}

@@ -1,6 +1,6 @@
 -- `text::put_digits` meets its contract (01, Job). The loop's invariant: putting the digits of what is left gives what putting them all gives.
 use mathlib.Core.Path.{◌≡◌}
-use Prim.Native.Nat.{◌-◌, ◌≤◌}
+use Prim.Native.Nat.{◌≤◌}
 use lib.ListN.{length}
 use lib.Seq.{sets}
 use Rattle.job_lines.specs.Text.{digits}

@@ -1,9 +1,8 @@
 -- `whole::whole_below` meets its contract (01, Tank). The loop's invariant: k is 0, or below n and at most x; next is the double of k + 1.
 use mathlib.Core.Path.{refl}
 use mathlib.Core.Logic.{inl, inr}
-use Prim.Native.Nat.{◌+◌, ◌-◌}
+use Prim.Native.Nat.{◌+◌}
 use native.Mathlib.Omega.{arith}
-use borrow.Author.Tests.{not-true, not-false}
 use Rattle.numeric.proofs.WholePart.{found_stop, found_end, whole_one, whole_next}
 use borrow.Author.Rules.{rules}
 use Rattle.numeric.proofs.whole.whole_below.Goals as goal

@@ -1,5 +1,4 @@
 -- `rearrange::is_sorted` meets its contract (01, Mix). The loop's invariant: each pair passed rises.
-use Prim.Native.Nat.{◌-◌}
 use Rattle.numeric.specs.Holds.{passed_start, passed_next, passed_fails, passed_end}
 use Rattle.mixing.specs.Rearrange.{is_sorted}
 use Rattle.plain_mixing.proofs.plain.is_sorted.Goals as goal

@@ -1,7 +1,6 @@
 -- `plain::rearrange_plain` meets its contract (01, Mix). The loop's invariant: after k rounds, none of which gave order, the rounds left give the whole mixing.
 use mathlib.Core.Path.{sym, ap, ◌∙◌}
 use mathlib.Core.Bool.{true, false}
-use Prim.Native.Nat.{◌-◌}
 use native.Mathlib.Omega.{arith}
 use native.Mathlib.Nat.{sub-zero}
 use Rattle.mixing.specs.Rearrange.{rearrange}

@@ -1,5 +1,4 @@
 -- `round::fill_group` meets its contract (01, Mix). The loop's invariant: filling the places left gives the whole.
-use Prim.Native.Nat.{◌-◌}
 use native.Mathlib.Omega.{arith}
 use Rattle.numeric.specs.Iterate.{span_start, span_next, span_end}
 use Rattle.plain_mixing.proofs.round.fill_group.Goals as goal

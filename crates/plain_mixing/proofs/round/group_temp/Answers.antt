@@ -1,5 +1,4 @@
 -- `round::group_temp` meets its contract (01, Mix). The loop's invariant: both accumulators have the terms below k, and what is left gives the whole sums.
-use Prim.Native.Nat.{◌-◌}
 use Rattle.numeric.specs.Iterate.{rest_start, rest_next, rest_end}
 use Rattle.numeric.specs.Sum2.{sum2_iterate}
 use Rattle.mixing.specs.Round.{group_temp}

@@ -1,6 +1,5 @@
 -- `mix::copy_in` meets its contract (01, The four calls). The loop's invariant: the first i places are copied.
 use mathlib.Core.Path.{◌≡◌, refl}
-use Prim.Native.Nat.{◌-◌}
 use native.Mathlib.Omega.{arith}
 use lib.Ieee.{nan}
 use lib.ListN.{length}

@@ -1,7 +1,6 @@
 -- `mix::copy_out` meets its contract (01, The four calls). The loop's invariant: the first i places are copied, and the length is as it was.
 use mathlib.Core.Path.{◌≡◌, refl}
 use mathlib.Core.List.{append-nil}
-use Prim.Native.Nat.{◌-◌}
 use native.Mathlib.Omega.{arith}
 use lib.Ieee.{nan}
 use lib.ListN.{length, length-set}

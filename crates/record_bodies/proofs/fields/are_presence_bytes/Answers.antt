@@ -1,5 +1,4 @@
 -- `fields::are_presence_bytes` meets its contract (01, Job). The loop's invariant: each entry passed has a presence byte.
-use Prim.Native.Nat.{◌-◌}
 use borrow.Author.Tests.{lt-leb, le-leb}
 use Rattle.numeric.specs.Holds.{passed_start, passed_next, passed_fails, passed_end}
 use Rattle.record_bodies.proofs.fields.are_presence_bytes.Goals as goal

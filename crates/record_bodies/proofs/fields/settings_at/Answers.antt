@@ -1,7 +1,6 @@
 -- `fields::settings_at` meets its contract (01, Job). The loop's invariant: the first k places are filled.
 use Rattle.numeric.specs.Tabulate.{tabulate}
 use mathlib.Core.Path.{◌≡◌, refl}
-use Prim.Native.Nat.{◌-◌}
 use native.Mathlib.Omega.{arith}
 use Rattle.tank_model.specs.Checks.{no_setting}
 use Rattle.job_records.specs.Fields.{no_settings, setting_at, settings_at}

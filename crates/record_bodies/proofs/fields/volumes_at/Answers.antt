@@ -1,7 +1,7 @@
 -- `fields::volumes_at` meets its contract (01, Job). The loop's invariant: the first i places are filled.
 use Rattle.numeric.specs.Tabulate.{tabulate}
 use mathlib.Core.Path.{◌≡◌, refl}
-use Prim.Native.Nat.{ℕ, ◌+◌, ◌*◌, ◌-◌}
+use Prim.Native.Nat.{ℕ, ◌+◌, ◌*◌}
 use native.Mathlib.Omega.{arith}
 use lib.Ieee.{nan}
 use Rattle.job_records.specs.Bytes.{double_at}

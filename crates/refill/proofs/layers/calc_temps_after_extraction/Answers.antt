@@ -1,10 +1,7 @@
 -- `layers::calc_temps_after_extraction` meets its contract (01, Refill). The invariants: filling the layers left gives the whole refill, they still have the
 -- temperatures from before the event, and the volumes kept are those of the next layer; taking from the donors left gives what all of them give.
-use Prim.Native.Nat.{◌-◌}
 use native.Mathlib.Omega.{arith}
 use mathlib.Core.Path.{refl, sym, ◌∙◌}
-use mathlib.Core.Bool.{true}
-use mathlib.Core.Logic.{⊎_elim}
 use Rattle.numeric.specs.Descent.{descent_start, descent_next, descent_stop, descent_end}
 use Rattle.refill.specs.Refill.{refill}
 use Rattle.refill.proofs.Descents.{refill_descends}

@@ -1,7 +1,6 @@
 -- `running::try_round` meets its contract (01, Mix). The loop's invariant: what is kept after i pairs follows the round by definition.
 use mathlib.Core.Path.{◌≡◌, refl, sym, ◌∙◌}
 use mathlib.Core.Bool.{true}
-use Prim.Native.Nat.{◌-◌}
 use native.Mathlib.Omega.{arith}
 use lib.Ieee.{inf, neg, div, of_bits}
 use denote.Floats.{passes}

@@ -1,6 +1,5 @@
 -- `fitted_heaters` meets its contract (01, Tank). The loop's invariant: the places passed hold what a tank has there, the others zeros.
 use mathlib.Core.Path.{◌≡◌, refl, ◌∙◌}
-use Prim.Native.Nat.{◌-◌}
 use native.Mathlib.Omega.{arith}
 use lib.ListN.{replicate}
 use Rattle.numeric.proofs.Filling.{tabulated_next, tabulated_end}

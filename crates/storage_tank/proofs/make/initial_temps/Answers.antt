@@ -1,6 +1,5 @@
 -- `initial_temps` meets its contract (01, Tank). The loop's invariant: the places passed are at x, the others zero.
 use mathlib.Core.Path.{◌≡◌, refl}
-use Prim.Native.Nat.{◌-◌}
 use native.Mathlib.Omega.{arith}
 use lib.ListN.{replicate}
 use lib.Ieee.{nan}

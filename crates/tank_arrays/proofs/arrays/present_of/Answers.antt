@@ -1,9 +1,7 @@
 -- `arrays::present_of` meets its contract (01, Tank). The loop's invariant: writing the heaters left gives the whole.
-use Prim.Native.Nat.{◌-◌}
 use mathlib.Core.Bool.{false}
 use mathlib.Core.Path.{◌∙◌}
 use Rattle.numeric.specs.Iterate.{rest_start, rest_next, rest_end}
-use Rattle.set_points.specs.SetPoints.{has_lower, has_upper}
 use Rattle.tank_arrays.specs.Arrays.{present_of}
 use Rattle.tank_arrays.proofs.LentArrays.{both_rows}
 use borrow.Author.Rules.{rules}

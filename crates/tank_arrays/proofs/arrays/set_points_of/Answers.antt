@@ -1,9 +1,7 @@
 -- `arrays::set_points_of` meets its contract (01, Tank). The loop's invariant: writing the heaters left gives the whole.
-use Prim.Native.Nat.{◌-◌}
 use mathlib.Core.Path.{◌∙◌}
 use Rattle.numeric.specs.Double.{zero_f}
 use Rattle.numeric.specs.Iterate.{rest_start, rest_next, rest_end}
-use Rattle.set_points.specs.SetPoints.{lower_of, upper_of}
 use Rattle.tank_arrays.specs.Arrays.{set_points_of}
 use Rattle.tank_arrays.proofs.LentArrays.{both_rows}
 use Rattle.tank_arrays.proofs.arrays.set_points_of.Goals as goal

@@ -1,5 +1,4 @@
 -- `places_check` meets its contract (01, The four calls: 5). The loop's invariant: the heaters before h pass.
-use Prim.Native.Nat.{◌-◌}
 use Rattle.tank_model.specs.FirstRefusal.{searched_start, searched_turn, searched_stop, searched_end}
 use Rattle.tank_refusals.proofs.FirstRefusal.{check_at_lem, places_are}
 use Rattle.tank_refusals.proofs.checks.places_check.Goals as goal

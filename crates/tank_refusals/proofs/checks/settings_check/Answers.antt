@@ -1,6 +1,5 @@
 -- `settings_check` meets its contract (02, R-1: 12, 8 and 13). The loop's invariant: the set points before h pass.
 use mathlib.Core.Path.{ap, ◌∙◌}
-use Prim.Native.Nat.{◌-◌}
 use Rattle.tank_model.specs.FirstRefusal.{searched_start, searched_turn, searched_stop, searched_end}
 use Rattle.tank_model.specs.Checks.{points_check}
 use Rattle.tank_refusals.proofs.checks.settings_check.Goals as goal

@@ -1,5 +1,4 @@
 -- `volumes_check` meets its contract (01, The four calls: 7). The loop's invariant: the volumes before i pass.
-use Prim.Native.Nat.{◌-◌}
 use Rattle.tank_model.specs.FirstRefusal.{searched_start, searched_turn, searched_stop, searched_end}
 use Rattle.tank_refusals.proofs.checks.volumes_check.Goals as goal
 
