@@ -46,8 +46,9 @@ def listed():
     except OSError:
         raise Wrong("%s is not there: the programs are built from a whole repository" % shown("crates.txt")) from None
     pairs = [line.partition(":") for line in lines if ":" in line]
-    names = {name.strip() for name, _, _ in pairs}
-    return {name.strip(): [word for word in needs.split() if word in names] for name, _, needs in pairs}
+    # After a name may stand what the crate is, as `shim staticlib`.
+    names = {name.split()[0] for name, _, _ in pairs}
+    return {name.split()[0]: [word for word in needs.split() if word in names] for name, _, needs in pairs}
 
 
 def levels(crates):
