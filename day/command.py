@@ -170,7 +170,7 @@ def arguments():
         command.add_argument("file", metavar="JOB" if work is unpack else "DAY")
         command.add_argument("-o", metavar="FILE", help="write here, whole or not at all; else standard output")
         if work in (run, why, draw):
-            command.add_argument("--programs", metavar="FOLDER", help="where the proved programs are; else target/bin")
+            command.add_argument("--programs", metavar="FOLDER", help="where the proved programs are; else where rt leaves them")
         if work is run:
             command.add_argument("--csv", action="store_true", help="CSV with every digit instead of a table")
         if work is why:

@@ -7,7 +7,7 @@ import tempfile
 import progress
 from records import BYTES_READ
 
-FOLDER = os.path.join(os.path.dirname(os.path.dirname(os.path.abspath(__file__))), "target", "bin")
+CRATES = os.path.join(os.path.dirname(os.path.dirname(os.path.abspath(__file__))), "crates")
 MOST_SAID = 300  # characters of what a program says on standard error
 
 
@@ -24,10 +24,15 @@ def figures_program(job):
     return "job" if len(job) <= BYTES_READ else "long_job"
 
 
+def built(name, crates=CRATES):
+    """Where rt leaves the program of a crate that it has proved."""
+    return os.path.join(crates, name, "out", name)
+
+
 def path_of(name, folder):
-    path = os.path.join(folder or FOLDER, name)
+    path = os.path.join(folder, name) if folder else built(name)
     if not (os.path.isfile(path) and os.access(path, os.X_OK)):
-        raise NoProgram("the program %s is not at %s; to build it: rt check %s" % (name, os.path.relpath(path), name))
+        raise NoProgram("the program %s is not at %s; to build it: day/day sample" % (name, os.path.relpath(path)))
     return path
 
 

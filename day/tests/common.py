@@ -22,6 +22,7 @@ ROOT = os.path.dirname(DAY)
 sys.path[:0] = [DAY, TESTS]
 
 import programs  # noqa: E402
+from programs import built  # noqa: E402, F401
 import records  # noqa: E402
 import report  # noqa: E402
 import text  # noqa: E402

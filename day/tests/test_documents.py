@@ -33,7 +33,7 @@ def read(path):
 
 def crates():
     lines = [line.split("#")[0] for line in read("crates.txt").splitlines()]
-    return [line.split(":")[0].strip() for line in lines if ":" in line]
+    return [line.split(":")[0].split()[0] for line in lines if ":" in line]
 
 
 def found(*parts):
@@ -114,9 +114,12 @@ def first_word(command):
 
 
 def is_built(word):
-    """A program or a library that a command makes: target/bin/NAME is the program of a crate."""
-    if word.startswith("target/bin/"):
-        return found("crates", word[len("target/bin/") :], "src", "main.rt")
+    """A program or a library that a command makes: crates/NAME/out/NAME is the program of a crate, libNAME.a its library."""
+    made = re.fullmatch(r"crates/(\w+)/out(/.+)?", word)
+    if made:
+        crate, file = made.groups()
+        source = {"/" + crate: "main.rt", "/lib%s.a" % crate: "lib.rt", None: "*.rt"}.get(file)
+        return source is not None and found("crates", crate, "src", source)
     return word.startswith(("target/", "compare/target/"))
 
 
@@ -124,7 +127,7 @@ def commands(block):
     for line in block.splitlines():
         for command in re.split(r"&&|\|\||[|;]", line.split(" #")[0]):
             if command.strip() and not command.startswith("#"):
-                yield command.strip()
+                yield command.strip().strip("()")
 
 
 class Paths(unittest.TestCase):
@@ -149,7 +152,8 @@ class Paths(unittest.TestCase):
         wrong = "crates/job/stdon", "day/dya", "docs/MODELS.md", "mixing/62_rounds", "specs/Drow.antt", "Lossses.antt"
         for word in wrong:
             self.assertTrue(looks_like_path(word) and not is_there(word) and not is_built(word), word)
-        self.assertFalse(is_built("target/bin/jobb"))
+        for word in ("crates/jobb/out/jobb", "crates/job/out/jobb", "crates/job/out/libjob.a"):
+            self.assertFalse(is_built(word), word)
 
 
 class Commands(unittest.TestCase):
@@ -170,8 +174,12 @@ class Commands(unittest.TestCase):
             path = os.path.join(ROOT, name)
             self.assertTrue(is_built(name) or os.access(path, os.X_OK), said)
         else:
-            self.assertIn(name, ("rt", "git", "python3", "cat", "sed", "valgrind"), said)
-        if name == "rt" and rest[0] in ("check", "try", "dev", "staticlib"):
+            self.assertIn(name, ("rt", "cd", "git", "python3", "cat", "sed", "valgrind"), said)
+        if name == "cd":
+            self.assertIn(os.path.relpath(rest[0], "crates"), listed, said)
+        if name == "rt":
+            self.assertIn(rest[0], ("all", "check", "ci", "doc", "lib", "run", "test", "try", "version"), said)
+        if name == "rt" and rest[0] == "ci":
             for crate in rest[1:]:
                 self.assertIn(crate, listed, said)
         for before, word in zip(words, rest):

@@ -173,7 +173,7 @@ class Programs(Folder):
         day = self.write("a.day", tank() + "step feed 10 C\n")
         none = at_once("run", day, "--programs", self.path("none"))
         self.assertEqual(none.returncode, 2)
-        self.assertRegex(none.stderr.decode(), r"the program job is not at \S*none/job; to build it: rt check job\n$")
+        self.assertRegex(none.stderr.decode(), r"the program job is not at \S*none/job; to build it: day/day sample\n$")
         os.makedirs(self.path("bin/job"))
         self.assertIn(b"is not at", at_once("run", day, "--programs", self.path("bin")).stderr)
         os.rmdir(self.path("bin/job"))

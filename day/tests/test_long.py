@@ -6,7 +6,7 @@ import os
 import time
 import unittest
 
-from common import ROOT, Folder, at_once, bits, day_of, tank
+from common import Folder, at_once, bits, built, day_of, tank
 import programs
 import records
 import second_opinion
@@ -14,8 +14,6 @@ import turns
 import why
 
 model = second_opinion.model
-
-BUILT = os.path.join(ROOT, "target", "bin")
 
 # A year of half hours. Heater 0 goes on and off; heater 1 comes on in step 700 and never reaches its upper set point;
 # heater 2 is never asked for.
@@ -51,7 +49,7 @@ class Long(Folder):
         super().setUp()
         self.programs = self.program("job", "#!/bin/sh\necho asked in place of long_job >&2\n")
         for name in ("long_job", "history"):
-            os.symlink(os.path.join(BUILT, name), os.path.join(self.programs, name))
+            os.symlink(built(name), os.path.join(self.programs, name))
 
 
 class Year(Long):
@@ -149,7 +147,7 @@ class Limit(Long):
 
     def test_job_where_it_reads_all(self):
         self.assertIn(b"asked in place of long_job", self.asked(4092, self.programs).stderr)
-        done = self.asked(4092, BUILT)
+        done = self.asked(4092, os.path.dirname(built("job")))
         self.assertEqual((done.returncode, done.stderr), (0, b""))
         self.assertIn(b"\n4091  170d 11:00  ", done.stdout)
 
@@ -163,7 +161,7 @@ class Limit(Long):
         done = self.asked(4093, self.programs)
         self.assertEqual(done.returncode, 2)
         self.assertIn(b"the program long_job is not at", done.stderr)
-        self.assertIn(b"to build it: rt check long_job", done.stderr)
+        self.assertIn(b"to build it: day/day sample", done.stderr)
 
     def test_failures_name_long_job(self):
         done = self.asked(4093, self.program("long_job", "#!/bin/sh\nexit 3\n"))

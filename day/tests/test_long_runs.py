@@ -10,15 +10,14 @@ import os
 import subprocess
 import unittest
 
-from common import ROOT, TESTS
+from common import TESTS, built
 import second_opinion  # noqa: F401  puts compare/ on the path
 import long_jobs
 
 
 def run(program, job):
     """The lines of a program that ends well and says nothing else."""
-    path = os.path.join(ROOT, "target", "bin", program)
-    ran = subprocess.run([path], input=job, stdout=subprocess.PIPE, stderr=subprocess.PIPE, timeout=60)
+    ran = subprocess.run([built(program)], input=job, stdout=subprocess.PIPE, stderr=subprocess.PIPE, timeout=60)
     if ran.returncode or ran.stderr:
         raise AssertionError("%s ended with %d: %r" % (program, ran.returncode, ran.stderr))
     return ran.stdout

@@ -11,26 +11,32 @@ import unittest
 import xml.etree.ElementTree as ElementTree
 from unittest import mock
 
-from common import DAY, ROOT, Folder, Terminal, at_once, but_progress
+from common import DAY, ROOT, Folder, Terminal, at_once, built, but_progress
 import build
 
-BUILT = os.path.join(ROOT, "target", "bin")
 CRATES = "# words\nnumeric:\nmixing: numeric\njob: numeric mixing io\nlong_job: numeric mixing io\nhistory: mixing\n"
 # A stand-in for rt in a repository of five crates. It is asked once a line of `asked`; it proves nothing.
 RT = """#!/bin/sh
-echo "$@" >>asked
-mkdir -p target/bin target/stamp
-echo "rt: numeric proved (unchanged since it was last proved)"
+name=$(basename "$PWD")
+cd ../..
+echo "$name: $@" >>asked
+mkdir -p crates/$name/out
+echo "== numeric"
 {before}
-for name in mixing job long_job history; do
-    echo "many words of the prover on $name"
-    echo "rt: $name proved (1 s)"
+for done in mixing $name; do
+    echo "== $done"
+    echo "many words of the prover on $done"
 done
-for name in job history; do ln -sf {built}/$name target/bin/$name; done
-printf '#!/bin/sh\\n' >target/bin/long_job
-chmod +x target/bin/long_job
-for name in job history long_job; do echo stamp >target/stamp/$name; done
-echo "rt: ok, 5 crates proved"
+case $name in
+job) ln -sf {job} crates/job/out/job ;;
+history) ln -sf {history} crates/history/out/history ;;
+*)
+    printf '#!/bin/sh\\n' >crates/long_job/out/long_job
+    chmod +x crates/long_job/out/long_job
+    ;;
+esac
+echo stamp >crates/$name/out/$name.stamp
+echo "3 of 3 crates ok"
 {after}
 """
 
@@ -50,7 +56,7 @@ class Sample(Folder):
         self.rt()
 
     def rt(self, before="", after=""):
-        self.write("path/rt", RT.format(before=before, after=after, built=BUILT), 0o755)
+        self.write("path/rt", RT.format(before=before, after=after, job=built("job"), history=built("history")), 0o755)
 
     def start(self, path="path", **streams):
         streams = dict(dict(stdout=subprocess.PIPE, stderr=subprocess.PIPE), **streams)
@@ -73,9 +79,11 @@ class Sample(Folder):
         return process.returncode, out.decode(), but_progress(said).decode()
 
     def times_asked(self):
+        """How often rt was asked for the three programs, one after another."""
         asked = self.read(self.path("asked")).decode().splitlines() if os.path.exists(self.path("asked")) else []
-        self.assertEqual(set(asked) - {"check job history long_job"}, set())
-        return len(asked)
+        each = ["%s: all test --jobs 2" % name for name in ("job", "history", "long_job")]
+        self.assertEqual(asked, len(asked) // 3 * each)
+        return len(asked) // 3
 
     def wait_for(self, name):
         until = time.monotonic() + 30
@@ -106,7 +114,7 @@ class FirstMinute(Sample):
         target = self.path("target")
         where = dict(ROOT=self.folder, TARGET=target, FOLDER=os.path.join(target, "sample"))
         path = self.path("path") + ":/usr/bin:/bin"
-        with mock.patch.multiple(build, **where), mock.patch.dict(os.environ, PATH=path):
+        with mock.patch.multiple(build, **where), mock.patch.dict(os.environ, PATH=path, RT_JOBS="2"):
             build.build(said.append)
         return said
 
@@ -114,8 +122,8 @@ class FirstMinute(Sample):
         for at, (change, due) in enumerate((
             (lambda: None, 1),
             (lambda: self.write("crates/mixing/must-fail/new.edit", ""), 1),
-            (lambda: os.unlink(self.path("target/bin/history")), 2),
-            (lambda: os.unlink(self.path("target/stamp/long_job")), 3),
+            (lambda: os.unlink(self.path("crates/history/out/history")), 2),
+            (lambda: os.unlink(self.path("crates/long_job/out/long_job.stamp")), 3),
             (lambda: self.write("crates/mixing/src/new.rt", ""), 4),
             (lambda: self.write("crates.txt", CRATES + "other: numeric\n"), 5),
             (lambda: self.write("crates/other/src/lib.rt", ""), 5),
@@ -126,10 +134,10 @@ class FirstMinute(Sample):
                 self.assertEqual(self.times_asked(), due, at)
 
     def test_asked_once_where_rt_leaves_its_stamps(self):
-        """A clone with another's target/: its stamps are older than the files, and rt proves nothing anew."""
+        """A clone with another's out/: its stamps are older than the files, and rt proves nothing anew."""
         self.build()
         for name in build.PROGRAMS:
-            os.utime(self.path("target/stamp/" + name), (1, 1))
+            os.utime(self.path("crates/%s/out/%s.stamp" % (name, name)), (1, 1))
         os.unlink(self.path("target/sample/asked"))
         self.rt(before="exit 0")
         for _ in range(2):
@@ -142,7 +150,7 @@ class FirstMinute(Sample):
         self.assertEqual((status, out), (2, ""))
         self.assertEqual(
             said,
-            "day sample: job, history, long_job are not built (target/bin), and the Rattle toolchain that proves and "
+            "day sample: job, history, long_job are not built (crates/*/out), and the Rattle toolchain that proves and "
             "builds them is missing: there is no program rt on the path\n",
         )
         self.sample()
@@ -153,14 +161,14 @@ class FirstMinute(Sample):
         self.assertTrue(said.startswith("note: the programs may be older than their sources"), said)
 
     def test_what_fails_is_named_with_the_log(self):
-        failed = "rt: mixing NOT PROVED (exit 1, 3 s)"
-        self.rt(before="echo '%s'; echo 'rt: FAILED: mixing job'; exit 1" % failed)
+        failed = "mixing: failed (1)"
+        self.rt(before="echo '%s'; echo 'job: not run, since mixing failed'; exit 1" % failed)
         status, out, said = self.sample()
         log = "all that rt said is in target/sample/build.log"
         words = "day sample: the programs could not be built: %s; %s\n" % (failed, log)
         self.assertEqual((status, out, said), (2, "", words))
         self.assertIn(failed.encode(), self.read(self.path("target/sample/build.log")))
-        self.rt(after="rm target/bin/long_job")
+        self.rt(after="rm -f crates/long_job/out/long_job")
         status, out, said = self.sample()
         self.assertEqual((status, out), (2, ""))
         self.assertIn("rt ended well, and not all programs are there; " + log, said)
@@ -235,7 +243,7 @@ class Interrupted(Sample):
 
 
 class HowFar(Sample):
-    # mixing 2, job beside history 16, long_job 13.
+    # mixing 2, job 16, history 13, long_job 13.
     WORDS = re.compile(rb"building: crate 2 of 5, mixing; about [2-5]0 s left")
 
     def test_a_line_now_and_then_and_one_line_at_a_terminal(self):
@@ -246,7 +254,7 @@ class HowFar(Sample):
         said = but_progress(process.communicate(timeout=30)[1])
         self.assertRegex(said, rb"^built job, history, long_job in .*\n$")
         os.unlink(self.path("go"))
-        os.unlink(self.path("target/bin/job"))
+        os.unlink(self.path("crates/job/out/job"))
         with Terminal() as terminal:
             process = self.start(stderr=terminal.inner)
             terminal.until(lambda shown: len(self.WORDS.findall(shown)) > 1)
@@ -276,6 +284,11 @@ class Estimates(unittest.TestCase):
         with mock.patch("time.monotonic", return_value=now):
             estimate.line(line)
 
+    def done(self, estimate, name, now):
+        """As rt prints it: the crate, and then what it has to say of its proof."""
+        self.say(estimate, "== %s" % name, now)
+        self.say(estimate, "logic=proved", now)
+
     def test_levels_of_this_repository(self):
         """As rt takes them: each crate after those that it depends on, and each needed crate once."""
         crates = build.listed()
@@ -300,21 +313,28 @@ class Estimates(unittest.TestCase):
         # Twice as long as was thought: what comes after will take twice as long too.
         self.assertEqual(self.left(estimate, 82), 2 * (52 + 6))
         # Twice as slow as the machine where the costs were measured.
-        self.say(estimate, "rt: mixing proved (82 s)", 82)
+        self.done(estimate, "mixing", 82)
         self.assertEqual(self.left(estimate, 82), 2 * (52 + 6))
         with mock.patch("time.monotonic", return_value=82):
             self.assertEqual(estimate.words(), "building: crate 2 of 4, job_history and heating; about 2 min left")
-        for name, took in (("job_history", 104), ("heating", 76)):
-            self.say(estimate, "rt: %s proved (%d s)" % (name, took), 170)
-        self.assertEqual(self.left(estimate, 172), 10)
-        self.say(estimate, "rt: cylinder proved (12 s)", 182)
-        self.assertEqual(self.left(estimate, 182), 0)
+        for name, took in (("heating", 76), ("job_history", 104)):
+            self.done(estimate, name, 82 + took)
+        self.assertEqual(self.left(estimate, 188), 10)
+        self.done(estimate, "cylinder", 186 + 12)
+        self.assertEqual(self.left(estimate, 198), 0)
         self.assertEqual(estimate.words(), "building: all 4 crates are proved, the programs are tried")
 
     def test_what_was_proved_before_says_nothing_of_speed(self):
         estimate = self.estimate([["mixing"], ["job_history"]])
-        self.say(estimate, "rt: mixing proved (unchanged since it was last proved)", 1)
+        self.say(estimate, "== mixing", 1)
+        self.say(estimate, "rt: mixing: begins with what a check kept in another folder", 1)
+        self.say(estimate, "== summary", 1)
         self.assertEqual(self.left(estimate, 1), 52)
+
+    def test_the_quick_pass_says_nothing_of_speed(self):
+        estimate = self.estimate([["mixing"], ["job_history"]])
+        self.say(estimate, "only=0 proved=0", 400)
+        self.assertEqual(self.left(estimate, 400), 41 + 52)
 
     def test_in_words(self):
         said = [build.about(seconds) for seconds in (0, 9, 11, 44, 89, 90, 149, 151, 600)]

@@ -14,7 +14,7 @@ import time
 import tty
 import unittest
 
-from common import ROOT
+from common import ROOT, built
 
 F_SETPIPE_SZ = 1031  # Linux's; fcntl has its name since Python 3.10
 MINUTE = struct.pack("ll", 60, 0)
@@ -35,7 +35,7 @@ class Streams(unittest.TestCase):
     name = "job"
 
     def setUp(self):
-        self.program = os.path.join(ROOT, "target", "bin", self.name)
+        self.program = built(self.name)
         # A job, and its lines, to which the gate holds the program.
         self.input, self.text = stored(self.name, "stdin"), stored(self.name, "stdout")
 

@@ -83,7 +83,7 @@ class CommaSeparated(unittest.TestCase):
 
 class Program(unittest.TestCase):
     def test_the_program_prints_the_stored_lines(self):
-        """The figures come from target/bin/job: on stored jobs it prints what the judge says."""
+        """The figures come from the proved program job: on stored jobs it prints what the judge says."""
         for name, job, lines in stored_jobs():
             self.assertEqual(programs.lines_of("job", job, 0), lines, name)
 
