@@ -2,4 +2,3 @@
 pub mod Offer
 pub mod Supply
 pub mod Turn
-pub mod SupplyLaws

@@ -24,7 +24,7 @@ use Rattle.immersion_heater.specs.Offer.{offer}
 use Rattle.immersion_heater.specs.Supply.{demand, supply}
 use Rattle.immersion_heater.specs.declared.turn.Immersion.{Immersion}
 use Rattle.immersion_heater.specs.Turn.{Turned, after_heat, turn}
-use Rattle.immersion_heater.specs.SupplyLaws.{supply_at_most, supply_off}
+use Rattle.immersion_heater.proofs.SupplyLaws.{supply_at_most, supply_off}
 use Rattle.tank_model.specs.declared.TankDesign.{TankDesign}
 use Rattle.tank_model.specs.declared.Step.{Step}
 use Rattle.tank_model.specs.Fixed.{Placed, immersed, fixed_of}
