@@ -1,6 +1,6 @@
 -- Proves how the stored lines are held against a whole job, record after record (01, Job; Figures to hold it against).
 use Rattle.std.proofs.Common.{◌≡◌, ℕ, ◌+◌, ◌≤◌, Bool, true, false, cond, eqb, List, length, take, drop, sym, refl, ap, ◌∙◌, arith, length-drop, drop-drop}
-use Rattle.job_lines.specs.Put.{written_first}
+use Rattle.job_lines.specs.Put.{written, written_first}
 use Rattle.job_model.specs.declared.Job.{Job}
 use Rattle.job_model.specs.declared.Printed.{Printed}
 use Rattle.job_model.specs.Job.{RecordRun, Gives, start_job, record_run, job_text}
@@ -54,7 +54,9 @@ module _ (bytes stored : List ℕ) (j : Job) (at : ℕ) (c : Comparing bytes sto
       ∙ same_end stored at c.placed
 
 -- what the buffer holds first is the record's text, since it fits
-pub compared : {t : RecordRun} {before after : List ℕ} {p : Printed} → Gives t before after p → length after ≡ length before → p.length ≤ length after → (left : List ℕ) (b : Bool) → b ≡ begins_with left (take p.length after) → begins_with left t.text ≡ b
-compared {t} {before} {after} {p} g same room left b h =
-    let fits : length t.text ≤ length before = (let n = g.counts in omega arith) in
-    sym (h ∙ rw (g.prints, g.counts, written_first before t.text fits))
+pub compared : (before after text left : List ℕ) (n : ℕ) (b : Bool) → after ≡ written before text → n ≡ length text → n ≤ length before → b ≡ begins_with left (take n after) → begins_with left text ≡ b
+compared before after text left n b p e l h = sym (h ∙ rw (p, e, written_first before text (rw e at l)))
+
+-- the same of what a record gives in a buffer that keeps its length
+pub record_compared : {t : RecordRun} {before after : List ℕ} {p : Printed} → Gives t before after p → length after ≡ length before → p.length ≤ length after → (left : List ℕ) (b : Bool) → b ≡ begins_with left (take p.length after) → begins_with left t.text ≡ b
+record_compared {t} {before} {after} {p} g same room left b h = compared before after t.text left p.length b g.prints g.counts (omega arith) h

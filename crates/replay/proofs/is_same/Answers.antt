@@ -3,7 +3,7 @@ use Rattle.std.proofs.Common.{drop, length, sym, ◌∙◌, arith, rules}
 use Rattle.job_model.specs.Job.{record_run}
 use Rattle.job_model.proofs.Moves.{record_moves}
 use Rattle.job_model.proofs.Ends.{record_shortens}
-use Rattle.replay.proofs.Comparing.{comparing_start, comparing_next, comparing_differs, comparing_end, compared}
+use Rattle.replay.proofs.Comparing.{comparing_start, comparing_next, comparing_differs, comparing_end, record_compared}
 use borrow.Author.Tests.{not-true, not-false}
 use Rattle.replay.proofs.is_same.Goals as goal
 
@@ -26,7 +26,7 @@ returns-then-not-begins_with c =
     let at = c.loop-job in
     let a = c.args in
     let p = c.next_record-p in
-    sym (comparing_differs a.bytes.now a.stored.now at.job at.at at.invariant (not-true _ c.loop-job-test.true) (compared p.ensures p.auto.buf (search rules) (drop at.at a.stored.now) c.begins_with.result c.begins_with.ensures ∙ c.if-not-begins_with.true))
+    sym (comparing_differs a.bytes.now a.stored.now at.job at.at at.invariant (not-true _ c.loop-job-test.true) (record_compared p.ensures p.auto.buf (search rules) (drop at.at a.stored.now) c.begins_with.result c.begins_with.ensures ∙ c.if-not-begins_with.true))
 
 pub overflow_add-at : goal.overflow_add-at
 overflow_add-at c =
@@ -46,7 +46,7 @@ loop-job-preserved c =
     let a = c.args in
     let p = c.next_record-p in
     rw (p.ensures.goes, p.ensures.counts)
-    (comparing_next a.bytes.now a.stored.now at.job at.at at.invariant (not-true _ c.loop-job-test.true) (compared p.ensures p.auto.buf (search rules) (drop at.at a.stored.now) c.begins_with.result c.begins_with.ensures ∙ c.if-not-begins_with.false))
+    (comparing_next a.bytes.now a.stored.now at.job at.at at.invariant (not-true _ c.loop-job-test.true) (record_compared p.ensures p.auto.buf (search rules) (drop at.at a.stored.now) c.begins_with.result c.begins_with.ensures ∙ c.if-not-begins_with.false))
 
 pub returns : goal.returns
 returns c =
