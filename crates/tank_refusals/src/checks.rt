@@ -4,7 +4,8 @@ ghost use Rattle.std.specs.Prelude.{◌≡◌, ◌+◌, ◌≤◌};
 ghost use Rattle.draw_events.specs.Lent.{max_events};
 ghost use Rattle.working_order.specs.Order.{max_heaters};
 ghost use Rattle.tank_model.specs.Fixed.{placed, placed_heaters};
-ghost use Rattle.tank_model.specs.Checks.{not_negative, is_position, layers_check, heaters_check, numbers_check, temperatures_check, heater_check, places_check};
+ghost use Rattle.tank_model.specs.Checks.{not_negative, is_position};
+ghost use Rattle.tank_model.specs.Checks.{layers_check, heaters_check, numbers_check, temperatures_check, heater_check, places_check};
 ghost use Rattle.tank_model.specs.Checks.{counts_check, feed_check, volume_check, volumes_check, draws_check, points_check, settings_check};
 ghost use Rattle.tank_arrays.specs.Arrays.{fitted_in, settings_in};
 
