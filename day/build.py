@@ -25,10 +25,10 @@ FAILED = re.compile(r"\w+: (?:failed \(|not run, since )")
 EACH = 3 << 20  # KB of memory for each of the crates that are proved side by side
 
 # Seconds for each crate, measured once, with rattle-kit-5b-plain on two cores: what counts is how they compare.
-COSTS = {"numeric": 9, "shorter_sums": 4, "streams": 12, "mixing": 2, "plain_mixing": 9, "group_sums": 6, "layer_joining": 9}
+COSTS = {"refusals": 3, "numeric": 9, "shorter_sums": 4, "streams": 12, "mixing": 2, "plain_mixing": 9, "group_sums": 6, "layer_joining": 9}
 COSTS.update({"running_group": 8, "rearrange": 9, "cylinder": 4, "draw_off": 10, "layer_filling": 5, "repeating_layers": 4})
 COSTS.update({"refill": 9, "draw_events": 12, "set_points": 3, "layer_losses": 6, "thermal_losses": 8, "heating": 7})
-COSTS.update({"heater_switches": 4, "immersion_heater": 9, "working_order": 4, "tank_model": 5, "tank_arrays": 14, "tank_refusals": 14})
+COSTS.update({"heater_switches": 4, "immersion_heater": 9, "working_order": 4, "tank_model": 5, "tank_refusals": 14})
 COSTS.update({"heater_turns": 14, "step_work": 10, "storage_tank": 15, "job_lines": 17, "job_records": 6, "record_bodies": 14})
 COSTS.update({"job_reader": 7, "job_model": 3, "job_run": 20, "job_history": 20, "input_window": 5, "job_windows": 18, "job": 16})
 COSTS.update({"history": 13, "long_job": 13})

@@ -1,1 +1,3 @@
+-- The lemmas that proofs of `cylinder` cite.
 pub mod NoVolume
+mod FirstPlaces

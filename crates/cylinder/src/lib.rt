@@ -2,6 +2,8 @@
 #![tactic(auto)]
 
 ghost use Rattle.std.specs.Prelude.{◌≡◌, ◌≤◌};
+ghost use Rattle.std.specs.List.{list_all};
+ghost use Rattle.std.specs.Float.Ieee.Scale.{finite};
 ghost use Rattle.mixing.specs.Limits.{max_layers};
 ghost use Rattle.cylinder.specs.Layers.{layer_volume, layer_volumes, no_volume, all_finite};
 
@@ -20,19 +22,43 @@ pub struct Cylinder {
     pub timestep: f64,
 }
 
-pub fn layer_volume(c: Cylinder) -> f64
-    requires { c.layers ≤ max_layers }
-    ensures { result ≡ layer_volume c }
-{
-    c.volume / numeric::whole::whole_of(c.layers)
+impl Cylinder {
+    #[tactic(auto, unfolding(crate::specs::Layers::layer_volume))]
+    pub fn layer_volume(self) -> f64
+        requires { self.layers ≤ max_layers }
+        ensures { result ≡ layer_volume self }
+    {
+        self.volume / numeric::whole::whole_of(self.layers)
+    }
+
+    #[tactic(auto, unfolding(crate::specs::Layers::layer_volumes))]
+    pub fn layer_volumes(self) -> [f64; MAX_LAYERS]
+        requires { self.layers ≤ max_layers }
+        ensures { result ≡ layer_volumes self }
+    {
+        [self.layer_volume(); MAX_LAYERS]
+    }
 }
 
-pub fn layer_volumes(c: Cylinder) -> [f64; MAX_LAYERS]
-    requires { c.layers ≤ max_layers }
-    ensures { result ≡ layer_volumes c }
-{
-    let v = layer_volume(c);
-    [v; MAX_LAYERS]
+// A cylinder with the volume of each layer, whose layers fit their places.
+#[derive(Clone, Copy)]
+pub struct LayeredCylinder {
+    pub numbers: Cylinder,
+    pub vol: [f64; MAX_LAYERS],
+    pub ghost few_layers: { numbers.layers ≤ max_layers },
+}
+
+impl LayeredCylinder {
+    pub fn new(numbers: Cylinder) -> LayeredCylinder
+        requires { numbers.layers ≤ max_layers }
+        ensures numbers { result.numbers ≡ numbers }
+        ensures vol { result.vol ≡ layer_volumes numbers }
+    {
+        LayeredCylinder {
+            numbers,
+            vol: numbers.layer_volumes(),
+        }
+    }
 }
 
 // Below zero or wide-close to 0: at most the wide tolerance, as 1e-9 of a larger volume is less than that volume.
@@ -42,16 +68,15 @@ pub fn is_no_volume(v: f64) -> bool
     v <= 1e-10
 }
 
+fn is_each_finite(xs: &[f64]) -> bool
+    ensures { result ≡ list_all finite xs.now }
+{
+    xs.iter().all(|x| numeric::compare::is_finite(*x))
+}
+
 pub fn are_finite(n: usize, xs: &[f64; MAX_LAYERS]) -> bool
     requires { n ≤ max_layers }
     ensures { result ≡ all_finite n xs.now }
 {
-    let mut k = 0;
-    while k < n {
-        if !numeric::compare::is_finite(xs[k]) {
-            return false;
-        }
-        k += 1;
-    }
-    true
+    is_each_finite(&xs[..n])
 }

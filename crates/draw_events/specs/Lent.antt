@@ -1,8 +1,9 @@
--- States how the code holds what the events come to (01, Draw; Refill): the layers in a lent array, the number and the totals in small structs.
-use Rattle.std.specs.Prelude.{ℕ, ◌≡◌, true, List, Float}
+-- States how the code holds what the events come to (01, Draw; Refill): the layers in a lent array, the totals in a lent struct, the number in a Result.
+use Rattle.std.specs.Prelude.{ℕ, ◌≡◌, true, List, Result, Float}
+use Rattle.refusals.specs.declared.Refusal.{Refusal}
+use Rattle.refusals.specs.Refusals.{number_in}
 use Rattle.cylinder.specs.declared.Cylinder.{Cylinder}
 use Rattle.draw_events.specs.declared.Totals.{Totals}
-use Rattle.draw_events.specs.declared.event.EventAnswer.{EventAnswer}
 use Rattle.draw_events.specs.Event.{EventMixing, Event, Drawing, mixed_temps, number_after, event_number, temps_after_event, totals_after_event}
 
 -- `MAX_EVENTS` of the code (01, refusal 6)
@@ -14,9 +15,9 @@ pub record MixingWorked (m : EventMixing) (temps : List Float) (number : ℕ) (a
   pub draws : number ≡ number_after m true
   pub leaves : after ≡ mixed_temps temps m
 
--- where the events have come to: the layers, and what the code answers
-abbrev pub drawing_of : List Float → EventAnswer → Drawing
-drawing_of temps a = record { number = a.number; temps = temps; totals = a.totals }
+-- where the events have come to: the layers, what the code answers, and what the step has drawn
+abbrev pub drawing_of : List Float → Result (Unit {0}) Refusal → Totals → Drawing
+drawing_of temps answer t = record { number = number_in answer; temps = temps; totals = t }
 
 -- where the event e has come to, where the step had drawn t before it
 abbrev pub drawing_after : Cylinder → Event → Totals → Drawing

@@ -4,7 +4,7 @@ ghost use Rattle.mixing.specs.Limits.{max_layers};
 ghost use Rattle.draw_off.specs.Draw.{volume_used};
 ghost use Rattle.draw_events.specs.Kept.{sum_of_first, IsSumOf};
 
-use cylinder::Cylinder;
+use cylinder::LayeredCylinder;
 use mixing::limits::MAX_LAYERS;
 use numeric::sum2::Accumulator;
 
@@ -15,54 +15,53 @@ pub struct KeptSum {
     pub sum: Accumulator,
 }
 
-pub fn sum_of_none() -> KeptSum
-    ensures { (xs : List Float) → IsSumOf xs result }
-{
-    KeptSum {
-        layers: 0,
-        sum: numeric::sum2::start(),
-    }
-}
-
 fn sum_first(n: usize, vol: &[f64; MAX_LAYERS]) -> Accumulator
     requires { n ≤ max_layers }
     ensures { result ≡ sum_of_first vol.now n }
 {
-    let mut a = numeric::sum2::start();
-    let mut k = 0;
-    while k < n {
-        a = numeric::sum2::add_term(a, vol[k]);
-        k += 1;
+    let mut a = Accumulator::start();
+    for k in 0..n {
+        a = a.add_term(vol[k]);
     }
     a
 }
 
-// The sum of the first n layers: the kept one, where it is of so many.
-pub fn keep_sum(kept: KeptSum, n: usize, vol: &[f64; MAX_LAYERS]) -> KeptSum
-    requires { (n ≤ max_layers) × IsSumOf vol.now kept }
-    ensures layers { result.layers ≡ n }
-    ensures sum { IsSumOf vol.now result }
-{
-    if kept.layers == n {
-        return kept;
+impl KeptSum {
+    // The sum of no layers.
+    #[tactic(auto, unfolding(crate::specs::Kept::sum_of_first, numeric::specs::Iterate::iterate))]
+    pub fn none() -> KeptSum
+        ensures { (xs : List Float) → IsSumOf xs result }
+    {
+        KeptSum {
+            layers: 0,
+            sum: Accumulator::start(),
+        }
     }
-    KeptSum {
-        layers: n,
-        sum: sum_first(n, vol),
-    }
-}
 
-// The tank's volume less Sum2 of what the layers still hold; `kept` is that of the first of them.
-pub fn volume_used(c: Cylinder, held: &[f64; MAX_LAYERS], kept: KeptSum) -> f64
-    requires { (c.layers ≤ max_layers) × (kept.layers ≤ c.layers) × IsSumOf held.now kept }
-    ensures { result ≡ volume_used c held.now }
-{
-    let n = c.layers;
-    let mut a = kept.sum;
-    let mut k = kept.layers;
-    while k < n {
-        a = numeric::sum2::add_term(a, held[k]);
-        k += 1;
+    // From now on the sum of the first n layers: the kept one, where it is of so many.
+    pub fn keep(&mut self, n: usize, vol: &[f64; MAX_LAYERS])
+        requires { (n ≤ max_layers) × IsSumOf vol.now self.old }
+        ensures layers { self.new.layers ≡ n }
+        ensures sum { IsSumOf vol.now self.new }
+    {
+        if self.layers == n {
+            return;
+        }
+        *self = KeptSum {
+            layers: n,
+            sum: sum_first(n, vol),
+        };
     }
-    c.volume - numeric::sum2::total_of(a)
+
+    // The tank's volume less Sum2 of what the layers still hold, the first of which have the kept sum.
+    pub fn volume_used(&self, tank: &LayeredCylinder, held: &[f64; MAX_LAYERS]) -> f64
+        requires { (self.now.layers ≤ tank.now.numbers.layers) × IsSumOf held.now self.now }
+        ensures { result ≡ volume_used tank.now.numbers held.now }
+    {
+        let mut a = self.sum;
+        for k in self.layers..tank.numbers.layers {
+            a = a.add_term(held[k]);
+        }
+        tank.numbers.volume - a.total_of()
+    }
 }

@@ -3,6 +3,8 @@ ghost use Rattle.std.specs.Prelude.{◌≡◌, [], ◌∷◌};
 ghost use Rattle.numeric.specs.Sum2.{sum2};
 ghost use Rattle.draw_off.specs.Cold.{cold};
 
+use numeric::sum2::Accumulator;
+
 // The water that enters the tank from below.
 #[derive(Clone, Copy)]
 pub struct Feed {
@@ -12,10 +14,11 @@ pub struct Feed {
 fn sum2_of_one(b: f64) -> f64
     ensures { result ≡ sum2 (b ∷ []) }
 {
-    numeric::sum2::total_of(numeric::sum2::add_term(numeric::sum2::start(), b))
+    Accumulator::start().add_term(b).total_of()
 }
 
 // Both are Sum2s: the quotient need not be the feed's own temperature.
+#[tactic(auto, unfolding(crate::specs::Cold::cold))]
 pub fn cold_temp(feed: Feed, v: f64) -> f64
     ensures { result ≡ cold feed v }
 {

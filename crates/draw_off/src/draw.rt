@@ -6,7 +6,7 @@ ghost use Rattle.draw_off.specs.Draw.{extract, untouched};
 ghost use Rattle.draw_off.specs.Lent.{draw_of};
 
 use crate::cold::Feed;
-use cylinder::Cylinder;
+use cylinder::{Cylinder, LayeredCylinder};
 use mixing::limits::MAX_LAYERS;
 
 // What an event has drawn: the rest wanted, the event's energy, and the weighted sum and the volume drawn of the whole step so far.
@@ -21,15 +21,14 @@ pub struct Drawn {
 }
 
 // A layer smaller than, or narrow-close to, the rest gives all.
+#[tactic(auto, unfolding(crate::specs::Draw::gives_all))]
 fn does_give_all(held: f64, rest: f64) -> bool
     ensures { result ≡ gives_all held rest }
 {
-    if held < rest {
-        return true;
-    }
-    numeric::close::is_narrow_close(held, rest)
+    held < rest || numeric::close::is_narrow_close(held, rest)
 }
 
+#[tactic(auto, unfolding(crate::specs::Draw::share))]
 fn share_of(held: f64, rest: f64) -> f64
     ensures { result ≡ share held rest }
 {
@@ -40,6 +39,7 @@ fn share_of(held: f64, rest: f64) -> f64
     }
 }
 
+#[tactic(auto, unfolding(crate::specs::Draw::rest_after))]
 fn rest_after(held: f64, rest: f64) -> f64
     ensures { result ≡ rest_after held rest }
 {
@@ -63,72 +63,66 @@ fn count_share(c: Cylinder, v: f64, t: f64, cool: f64, rest: f64, d: Drawn) -> D
     }
 }
 
-// The layer i gives its share, over water at cold(event volume).
-fn draw_share(
-    c: Cylinder,
+// What the layers of an event's draw have in common: the tank, the feed, the temperatures before the event, and the volume wanted.
+#[derive(Clone, Copy)]
+struct EventDraw<'a> {
+    tank: &'a LayeredCylinder,
     feed: Feed,
-    temps: &[f64; MAX_LAYERS],
+    temps: &'a [f64; MAX_LAYERS],
     wanted: f64,
-    i: usize,
-    held: &mut [f64; MAX_LAYERS],
-    d: Drawn,
-) -> Drawn
-    requires { i < max_layers }
-    ensures { draw_of held.new result ≡ draw_share c feed temps.now wanted i (draw_of held.old d) }
-{
-    let h = held[i];
-    let t = temps[i];
-    let v = share_of(h, d.rest);
-    let rest = rest_after(h, d.rest);
-    let cool = crate::cold::cold_temp(feed, wanted);
-    held[i] = h - v;
-    count_share(c, v, t, cool, rest, d)
 }
 
-// An emptied layer is skipped.
-fn draw_layer(
-    c: Cylinder,
-    feed: Feed,
-    temps: &[f64; MAX_LAYERS],
-    wanted: f64,
-    i: usize,
-    held: &mut [f64; MAX_LAYERS],
-    d: Drawn,
-) -> Drawn
-    requires { i < max_layers }
-    ensures { draw_of held.new result ≡ draw_layer c feed temps.now wanted i (draw_of held.old d) }
-{
-    if cylinder::is_no_volume(held[i]) {
-        return d;
+impl<'a> EventDraw<'a> {
+    // The layer i gives its share, over water at cold(event volume).
+    fn draw_share(&self, i: usize, held: &mut [f64; MAX_LAYERS], d: Drawn) -> Drawn
+        requires { i < max_layers }
+        ensures { draw_of held.new result
+            ≡ draw_share self.now.tank.now.numbers self.now.feed self.now.temps.now self.now.wanted
+            i (draw_of held.old d) }
+    {
+        let h = held[i];
+        let v = share_of(h, d.rest);
+        let rest = rest_after(h, d.rest);
+        let cool = crate::cold::cold_temp(self.feed, self.wanted);
+        held[i] = h - v;
+        count_share(self.tank.numbers, v, self.temps[i], cool, rest, d)
     }
-    draw_share(c, feed, temps, wanted, i, held, d)
-}
 
-// From the top down, until the rest wanted is none.
-fn draw_layers(
-    c: Cylinder,
-    feed: Feed,
-    temps: &[f64; MAX_LAYERS],
-    wanted: f64,
-    held: &mut [f64; MAX_LAYERS],
-    start: Drawn,
-) -> Drawn
-    requires { c.layers ≤ max_layers }
-    ensures drawn { draw_of held.new result
-        ≡ draw_layers c feed temps.now wanted c.layers (draw_of held.old start) }
-    ensures left { result.untouched
-        ≡ unreached c feed temps.now wanted c.layers (draw_of held.old start) }
-{
-    let mut d = start;
-    let mut i = c.layers;
-    while 0 < i {
-        if cylinder::is_no_volume(d.rest) {
-            return Drawn { untouched: i, ..d };
+    // An emptied layer is skipped.
+    #[tactic(auto, unfolding(crate::specs::Draw::draw_layer))]
+    fn draw_layer(&self, i: usize, held: &mut [f64; MAX_LAYERS], d: Drawn) -> Drawn
+        requires { i < max_layers }
+        ensures { draw_of held.new result
+            ≡ draw_layer self.now.tank.now.numbers self.now.feed self.now.temps.now self.now.wanted
+            i (draw_of held.old d) }
+    {
+        if cylinder::is_no_volume(held[i]) {
+            return d;
         }
-        i -= 1;
-        d = draw_layer(c, feed, temps, wanted, i, held, d);
+        self.draw_share(i, held, d)
     }
-    Drawn { untouched: 0, ..d }
+
+    // From the top down, until the rest wanted is none.
+    fn draw_layers(&self, held: &mut [f64; MAX_LAYERS], start: Drawn) -> Drawn
+        ensures drawn { let c = self.now.tank.now.numbers in draw_of held.new result
+            ≡ draw_layers c self.now.feed self.now.temps.now self.now.wanted c.layers
+            (draw_of held.old start) }
+        ensures left { let c = self.now.tank.now.numbers in result.untouched
+            ≡ unreached c self.now.feed self.now.temps.now self.now.wanted c.layers
+            (draw_of held.old start) }
+    {
+        let mut d = start;
+        for i in (0..self.tank.numbers.layers).rev() {
+            if cylinder::is_no_volume(d.rest) {
+                return Drawn {
+                    untouched: i + 1,
+                    ..d
+                };
+            }
+            d = self.draw_layer(i, held, d);
+        }
+        Drawn { untouched: 0, ..d }
+    }
 }
 
 // A rest above zero, however small, comes from the feed.
@@ -150,7 +144,7 @@ fn draw_feed(c: Cylinder, feed: Feed, d: Drawn) -> Drawn
 
 // The event of the volume `wanted`: `held` comes with full layers, and is left with what each of them still holds.
 pub fn extract_hot_water(
-    c: Cylinder,
+    tank: &LayeredCylinder,
     feed: Feed,
     temps: &[f64; MAX_LAYERS],
     wanted: f64,
@@ -158,19 +152,26 @@ pub fn extract_hot_water(
     drawn: f64,
     held: &mut [f64; MAX_LAYERS],
 ) -> Drawn
-    requires { c.layers ≤ max_layers }
-    ensures drawn { draw_of held.new result ≡ extract c held.old feed temps.now wanted weighted drawn }
-    ensures left { result.untouched ≡ untouched c held.old feed temps.now wanted weighted drawn }
+    ensures drawn { draw_of held.new result
+        ≡ extract tank.now.numbers held.old feed temps.now wanted weighted drawn }
+    ensures left { result.untouched
+        ≡ untouched tank.now.numbers held.old feed temps.now wanted weighted drawn }
 {
     let start = Drawn {
         rest: wanted,
         energy: 0.0,
         weighted,
         drawn,
-        untouched: c.layers,
+        untouched: tank.numbers.layers,
     };
-    let d = draw_layers(c, feed, temps, wanted, held, start);
-    let all = draw_feed(c, feed, d);
+    let draw = EventDraw {
+        tank,
+        feed,
+        temps,
+        wanted,
+    };
+    let d = draw.draw_layers(held, start);
+    let all = draw_feed(tank.numbers, feed, d);
     Drawn {
         untouched: d.untouched,
         ..all

@@ -1,24 +1,12 @@
 // The figures of heaters.
-use crate::{answers, print, tanks};
+use crate::{answers, tanks};
 use set_points::SetPoints;
 use std::io;
-use tank_model::{Heater, Step, TankDesign};
+use tank_model::TankDesign;
 
 // Two layers at 40, and a heater of 160 kW at position 0.
 fn from_40() -> TankDesign {
-    tanks::with_heaters(2, 32.0, 40.0, 1, tanks::heater(160.0, 0.0))
-}
-
-fn steps(rt: &impl Print, m: TankDesign, a: Step) -> io::Result<()> {
-    let first = answers::first_step(rt, m, a)?;
-    let second = answers::step(rt, first.tank, first.report, a)?;
-    let third = answers::step(rt, second.tank, second.report, a)?;
-    answers::step(rt, third.tank, third.report, a)?;
-    Ok(())
-}
-
-fn four_steps(rt: &impl Print, points: SetPoints) -> io::Result<()> {
-    steps(rt, from_40(), tanks::heats(1, points))
+    tanks::with_heaters(tanks::plain(2, 32.0, 40.0), &[tanks::heater(160.0, 0.0)])
 }
 
 fn one_step(rt: &impl Print, points: SetPoints) -> io::Result<()> {
@@ -26,34 +14,34 @@ fn one_step(rt: &impl Print, points: SetPoints) -> io::Result<()> {
     Ok(())
 }
 
-// Two layers at 36 that lose heat, and two heaters.
-fn losing(first: Heater, second: Heater) -> TankDesign {
-    let mut m = tanks::with_heaters(2, 32.0, 36.0, 2, first);
-    m.standby = 27.0;
-    m.timestep = 0.125;
-    m.fitted[1] = second;
-    m
+fn four_steps(rt: &impl Print, points: SetPoints) -> io::Result<()> {
+    let a = tanks::heats(1, points);
+    let mut s = answers::first_step(rt, from_40(), a)?;
+    for _ in 1..4 {
+        s = answers::next_step(rt, s, a)?;
+    }
+    Ok(())
 }
 
-// Two heaters of 3 kW, unset, on a tank that loses heat.
+// Two heaters of 3 kW, unset, on two layers at 36 that lose heat.
 fn unset(rt: &impl Print, first: f64, second: f64) -> io::Result<()> {
+    let m = TankDesign {
+        standby: 27.0,
+        timestep: 0.125,
+        ..tanks::plain(2, 32.0, 36.0)
+    };
     answers::first_step(
         rt,
-        losing(tanks::heater(3.0, first), tanks::heater(3.0, second)),
+        tanks::with_heaters(m, &[tanks::heater(3.0, first), tanks::heater(3.0, second)]),
         tanks::heats(2, SetPoints::Neither),
     )?;
     Ok(())
 }
 
-// Layers of 16 litres at 40.
-fn layers(n: usize, volume: f64, heaters: usize, h: Heater) -> TankDesign {
-    tanks::with_heaters(n, volume, 40.0, heaters, h)
-}
-
-// Layers and n heaters alike at a position, with set points 50 and 60.
+// Layers at 40, and n heaters alike at a position, with set points 50 and 60.
 fn alike(
     rt: &impl Print,
-    layer_count: usize,
+    layers: usize,
     volume: f64,
     n: usize,
     rated: f64,
@@ -61,44 +49,36 @@ fn alike(
 ) -> io::Result<()> {
     answers::first_step(
         rt,
-        layers(layer_count, volume, n, tanks::heater(rated, position)),
+        tanks::with_alike(
+            tanks::plain(layers, volume, 40.0),
+            n,
+            tanks::heater(rated, position),
+        ),
         tanks::heats(n, SetPoints::Both(50.0, 60.0)),
     )?;
     Ok(())
 }
 
 pub fn figures(rt: &impl Print) -> io::Result<()> {
-    print::word(
-        rt,
-        b"# Two layers at 40, 160 kW at position 0, set points 50 and 60, four steps\n",
-    )?;
+    println!(rt; "# Two layers at 40, 160 kW at position 0, set points 50 and 60, four steps")?;
     four_steps(rt, SetPoints::Both(50.0, 60.0))?;
-    print::word(rt, b"# Set points 41 and 42\n")?;
+    println!(rt; "# Set points 41 and 42")?;
     one_step(rt, SetPoints::Both(41.0, 42.0))?;
-    print::word(
-        rt,
-        b"# Two layers at 36, standby 27, step 0.125, two heaters unset\n",
-    )?;
+    println!(rt; "# Two layers at 36, standby 27, step 0.125, two heaters unset")?;
     unset(rt, 0.0, 0.0)?;
-    print::word(rt, b"# Position 0.5 of 4: layer 2 is heated\n")?;
+    println!(rt; "# Position 0.5 of 4: layer 2 is heated")?;
     alike(rt, 4, 64.0, 1, 160.0, 0.5)?;
-    print::word(rt, b"# Position 1 of 4: layer 3 is heated\n")?;
+    println!(rt; "# Position 1 of 4: layer 3 is heated")?;
     alike(rt, 4, 64.0, 1, 16.0, 1.0)?;
-    print::word(rt, b"# Lower equal to upper\n")?;
+    println!(rt; "# Lower equal to upper")?;
     one_step(rt, SetPoints::Both(50.0, 50.0))
 }
 
 pub fn edges(rt: &impl Print) -> io::Result<()> {
-    print::word(
-        rt,
-        b"# Two heaters unset, the upper one given first: the lower one is worked first\n",
-    )?;
+    println!(rt; "# Two heaters unset, the upper one given first: the lower one is worked first")?;
     unset(rt, 0.5, 0.0)?;
-    print::word(rt, b"# Eight heaters of 10 kW\n")?;
+    println!(rt; "# Eight heaters of 10 kW")?;
     alike(rt, 2, 32.0, 8, 10.0, 0.0)?;
-    print::word(
-        rt,
-        b"# The upper set point alone: a flag that is off stays off\n",
-    )?;
+    println!(rt; "# The upper set point alone: a flag that is off stays off")?;
     one_step(rt, SetPoints::Upper(60.0))
 }

@@ -10,7 +10,7 @@ mod faults;
 mod heaters;
 mod mixes;
 mod print;
-mod refusals;
+mod refused;
 mod tanks;
 mod top_layer;
 
@@ -26,7 +26,7 @@ fn main(rt: HostRuntime) -> io::Result<()> {
     asymmetric::figures(&rt)?;
     faults::figures(&rt)?;
     top_layer::figures(&rt)?;
-    refusals::make(&rt)?;
-    refusals::step(&rt)?;
-    refusals::between(&rt)
+    refused::make(&rt)?;
+    refused::step(&rt)?;
+    refused::between(&rt)
 }

@@ -1,40 +1,25 @@
-// What a line is made of: words, numbers in decimal, and doubles as the 16 hexadecimal digits of their bits.
-use mixing::limits::MAX_LAYERS;
-use std::io;
+// How doubles are printed: each as the 16 hexadecimal digits of its bits.
+use std::fmt;
 
-pub fn word(rt: &impl Print, w: &[u8]) -> io::Result<()> {
-    rt.write_all(w)
-}
+#[derive(Clone, Copy)]
+pub struct Bits(pub f64);
 
-pub fn number(rt: &impl Print, n: u64) -> io::Result<()> {
-    print!(rt; " {n}")
-}
-
-pub fn flag(rt: &impl Print, b: bool) -> io::Result<()> {
-    if b { number(rt, 1) } else { number(rt, 0) }
-}
-
-pub fn double(rt: &impl Print, x: f64) -> io::Result<()> {
-    let bits = numeric::bits::bits_of(x);
-    print!(rt; " {bits:016x}")
-}
-
-pub fn doubles(rt: &impl Print, xs: &[f64]) -> io::Result<()> {
-    for x in xs {
-        double(rt, *x)?;
+impl fmt::Display for Bits {
+    fn fmt<W: fmt::Write>(&self, f: &mut fmt::Formatter<W>) -> fmt::Result {
+        let bits = numeric::bits::bits_of(self.0);
+        write!(f, "{bits:016x}")
     }
-    Ok(())
 }
 
-// The layers of a tank of n: none of a tank that counts more than it has places.
-pub fn layers(rt: &impl Print, n: usize, temps: [f64; MAX_LAYERS]) -> io::Result<()> {
-    word(rt, b"layers")?;
-    if n <= MAX_LAYERS {
-        doubles(rt, &temps[..n])?;
+// Each after a space.
+#[derive(Clone, Copy)]
+pub struct Row<'a>(pub &'a [f64]);
+
+impl fmt::Display for Row<'_> {
+    fn fmt<W: fmt::Write>(&self, f: &mut fmt::Formatter<W>) -> fmt::Result {
+        for x in self.0 {
+            write!(f, " {}", Bits(*x))?;
+        }
+        Ok(())
     }
-    line_end(rt)
-}
-
-pub fn line_end(rt: &impl Print) -> io::Result<()> {
-    word(rt, b"\n")
 }

@@ -1,8 +1,7 @@
 // What the figures are run on. Unless a figure says otherwise: density, specific heat and step length 1, standby loss 0, ambient 20, feed 12.
 use draw_events::event::MAX_EVENTS;
 use set_points::SetPoints;
-use storage_tank::Report;
-use tank_model::{Heater, HeaterLine, Setting, Step, TankDesign};
+use tank_model::{Heater, Setting, Step, TankDesign};
 use working_order::MAX_HEATERS;
 
 // A heater with its thermostat in its own layer.
@@ -10,8 +9,7 @@ pub fn heater(rated: f64, position: f64) -> Heater {
     Heater {
         rated,
         position,
-        has_thermostat: false,
-        thermostat: 0.0,
+        thermostat: None,
     }
 }
 
@@ -20,19 +18,12 @@ pub fn heater_with(rated: f64, position: f64, thermostat: f64) -> Heater {
     Heater {
         rated,
         position,
-        has_thermostat: true,
-        thermostat,
+        thermostat: Some(thermostat),
     }
 }
 
-// All heaters are alike.
-pub fn with_heaters(
-    layers: usize,
-    volume: f64,
-    initial: f64,
-    heaters: usize,
-    h: Heater,
-) -> TankDesign {
+// A tank with no heaters.
+pub fn plain(layers: usize, volume: f64, initial: f64) -> TankDesign {
     TankDesign {
         layers,
         volume,
@@ -42,13 +33,27 @@ pub fn with_heaters(
         cp: 1.0,
         ambient: 20.0,
         timestep: 1.0,
-        heaters,
-        fitted: [h; MAX_HEATERS],
+        heaters: 0,
+        fitted: [Heater::default(); MAX_HEATERS],
     }
 }
 
-pub fn plain(layers: usize, volume: f64, initial: f64) -> TankDesign {
-    with_heaters(layers, volume, initial, 0, heater(0.0, 0.0))
+// With so many heaters, all alike.
+pub fn with_alike(m: TankDesign, heaters: usize, h: Heater) -> TankDesign {
+    TankDesign {
+        heaters,
+        fitted: [h; MAX_HEATERS],
+        ..m
+    }
+}
+
+// With heaters as given.
+pub fn with_heaters(mut m: TankDesign, given: &[Heater]) -> TankDesign {
+    m.heaters = given.len();
+    for (place, h) in m.fitted.iter_mut().zip(given) {
+        *place = *h;
+    }
+    m
 }
 
 // n events of one volume, for a tank of no heaters.
@@ -75,18 +80,11 @@ pub fn heats(n: usize, points: SetPoints) -> Step {
     }
 }
 
-pub fn zero_report() -> Report {
-    Report {
-        energy: 0.0,
-        used: 0.0,
-        average: 0.0,
-        recoverable: 0.0,
-        lines: [HeaterLine {
-            flag: false,
-            adjusted: 0.0,
-            supplied: 0.0,
-            losses: 0.0,
-            rounds: 0,
-        }; MAX_HEATERS],
+// With set points for the heaters as given.
+pub fn with_points(mut a: Step, given: &[SetPoints]) -> Step {
+    a.entries = given.len();
+    for (setting, points) in a.settings.iter_mut().zip(given) {
+        setting.points = *points;
     }
+    a
 }

@@ -76,10 +76,10 @@ hot_feed =
 abbrev fifties : Cylinder
 fifties = dense 4 200 27 30 half
 
--- given out of order; the absent thermostat's double is not zero, and the tank's is
-abbrev unordered : Float → List Heater
-unordered ignored =
-    heater (whole 800) three_quarters ignored ∷ heater_with (whole 4800) zero_f half ∷ heater_with (whole 2400) quarter three_quarters ∷ []
+-- given out of order; the first has no thermostat of its own
+abbrev unordered : List Heater
+unordered =
+    heater (whole 800) three_quarters ∷ heater_with (whole 4800) zero_f half ∷ heater_with (whole 2400) quarter three_quarters ∷ []
 
 -- Second heater first, 2400 kWh: 40 + 24 = 64 mixes to 52, (52 + 52 + 40) / 3 = 48, (3×48 + 40) / 4 = 46; each layer loses 6.25 × 16 = 100, one degree: 45.
 -- Third, 1200 kWh to layer 1: 57 mixes upward to 51, (51 + 51 + 45) / 3 = 49; limited to 47, counted 6.25×17 - 100 = 6.25 each, 18.75 in all and not taken;
@@ -87,9 +87,9 @@ unordered ignored =
 -- First, 400 kWh to layer 3: 51, loses 6.25×21 - 106.25 = 25: 50.75; layers 1 and 2 lose 106.25 - 106.25 = 0. Recoverable 443.75 × 0.75.
 abbrev three_heaters : Figure
 three_heaters =
-    steps (design fifties 40 (unordered half)) (tank fifties (unordered zero_f) (replicate 4 (whole 40)) [])
+    steps (design fifties 40 unordered) (tank fifties unordered (replicate 4 (whole 40)) [])
     (asks (whole 10) [] (both 48 60 ∷ both 40 60 ∷ both 45 47 ∷ []) ∷ [])
-    (answer 0 (tank fifties (unordered zero_f) (whole 45 ∷ whole 47 ∷ whole 47 ∷ nearest 5_075 100 ∷ []) (true ∷ true ∷ false ∷ []))
+    (answer 0 (tank fifties unordered (whole 45 ∷ whole 47 ∷ whole 47 ∷ nearest 5_075 100 ∷ []) (true ∷ true ∷ false ∷ []))
     (report zero_f zero_f (whole 40) (nearest 3_328_125 10_000)
     (line true (whole 400) (whole 400) (whole 25) 1
     ∷ line true (whole 2400) (whole 2400) (whole 400) 1
@@ -139,33 +139,33 @@ set_points =
 abbrev small : Cylinder
 small = dense 1 16 0 20 half
 
-abbrev small_heater : Float → List Heater
-small_heater ignored = heater (nearest 1 (2 ^ 35)) zero_f ignored ∷ []
+abbrev small_heater : List Heater
+small_heater = heater (nearest 1 (2 ^ 35)) zero_f ∷ []
 
 abbrev small_input : Figure
 small_input =
-    steps (design small 40 (small_heater half)) (tank small (small_heater zero_f) (whole 40 ∷ []) []) (asks (whole 10) [] (both 50 60 ∷ []) ∷ [])
-    (answer 0 (tank small (small_heater zero_f) (nearest 87_960_930_222_081 (2 ^ 41) ∷ []) (true ∷ []))
+    steps (design small 40 small_heater) (tank small small_heater (whole 40 ∷ []) []) (asks (whole 10) [] (both 50 60 ∷ []) ∷ [])
+    (answer 0 (tank small small_heater (nearest 87_960_930_222_081 (2 ^ 41) ∷ []) (true ∷ []))
     (report zero_f zero_f (whole 40) zero_f (line true (nearest 1 (2 ^ 36)) zero_f zero_f 1 ∷ [])) ∷ [])
 
 -- A room at 20 around a tank at 10: each layer's loss is below zero, and so 0
-abbrev idle_heater : Float → List Heater
-idle_heater ignored = heater (whole 64) zero_f ignored ∷ []
+abbrev idle_heater : List Heater
+idle_heater = heater (whole 64) zero_f ∷ []
 
 abbrev warm_room : Figure
 warm_room =
-    steps (design (two 27) 10 (idle_heater half)) (tank (two 27) (idle_heater zero_f) (wholes (10 ∷ 10 ∷ [])) [])
+    steps (design (two 27) 10 idle_heater) (tank (two 27) idle_heater (wholes (10 ∷ 10 ∷ [])) [])
     (asks (whole 10) [] (Neither ∷ []) ∷ [])
-    (answer 0 (tank (two 27) (idle_heater zero_f) (wholes (10 ∷ 10 ∷ [])) [])
+    (answer 0 (tank (two 27) idle_heater (wholes (10 ∷ 10 ∷ [])) [])
     (report zero_f zero_f (whole 10) zero_f (line false zero_f zero_f zero_f 1 ∷ [])) ∷ [])
 
 -- ---- refused steps
 
-abbrev own_thermostat : Float → List Heater
-own_thermostat ignored = heater (whole 640) zero_f ignored ∷ []
+abbrev own_thermostat : List Heater
+own_thermostat = heater (whole 640) zero_f ∷ []
 
 abbrev tank_after : List ℕ → StorageTank
-tank_after layers = tank (two 0) (own_thermostat zero_f) (wholes layers) (true ∷ [])
+tank_after layers = tank (two 0) own_thermostat (wholes layers) (true ∷ [])
 
 abbrev report_after : ℕ → ℕ → Report
 report_after energy used = report (whole energy) (whole used) (whole 60) zero_f (line true (whole 320) (whole 320) zero_f 1 ∷ [])
@@ -186,7 +186,7 @@ many = record { feed = whole 20; events = 65; volumes = replicate 64 (whole 1); 
 -- Then 8 litres: (8×30 + 8×20) / 16 = 25 and (8×60 + 8×30) / 16 = 45, energy 2 × 8 × 40 = 640, and 320 kWh make 35 of 25.
 abbrev refused : Figure
 refused =
-    steps (design (two 0) 60 (own_thermostat half)) (tank (two 0) (own_thermostat zero_f) (wholes (60 ∷ 60 ∷ [])) [])
+    steps (design (two 0) 60 own_thermostat) (tank (two 0) own_thermostat (wholes (60 ∷ 60 ∷ [])) [])
     (asks (whole 20) (wholes (16 ∷ [])) (both 50 70 ∷ [])
     ∷ many
     ∷ asks (whole 20) (whole 16 ∷ minus 1 ∷ []) upper
@@ -214,10 +214,10 @@ junk = heater_with nan (whole 7) nan
 abbrev kept : Figure
 kept =
     lent
-    (tank_with (two 0) 1 (own_thermostat half ++ replicate 7 junk) (wholes (30 ∷ 60 ∷ []) ++ replicate 30 nan) (replicate 8 true))
+    (tank_with (two 0) 1 (own_thermostat ++ replicate 7 junk) (wholes (30 ∷ 60 ∷ []) ++ replicate 30 nan) (replicate 8 true))
     (asks (whole 20) (wholes (8 ∷ [])) upper ∷ [])
     (answer 0
-    (tank_with (two 0) 1 (padded 8 (own_thermostat half) junk) (padded 32 (wholes (35 ∷ 45 ∷ [])) nan) (replicate 8 true))
+    (tank_with (two 0) 1 (padded 8 own_thermostat junk) (padded 32 (wholes (35 ∷ 45 ∷ [])) nan) (replicate 8 true))
     (report_after 640 8) ∷ [])
 
 -- ---- the table

@@ -1,12 +1,14 @@
 -- States what a figure is (01, Figures to hold it against): arguments as a caller passes them, whole arrays with something in their unused places, and the
 -- whole of what the calls answer. It holds if that is what the calls' contracts say of these arguments.
-use Rattle.std.specs.Prelude.{ℕ, zero, suc, ◌≡◌, Bool, true, false, ◌&&◌, List, [], ◌∷◌, map, length, T, eqb, Float}
+use Rattle.std.specs.Prelude.{ℕ, zero, suc, ◌≡◌, Bool, true, false, ◌&&◌, List, [], ◌∷◌, map, length, T, eqb, Some, None, Result, Ok, Err, Float}
 use Rattle.std.specs.Float.{binary64, nan}
 use Rattle.std.specs.Float.Ieee.{round, neg}
+use Rattle.refusals.specs.declared.Refusal.{Refusal}
+use Rattle.refusals.specs.Refusals.{number_in, refusal_with}
 use Rattle.numeric.specs.Double.{whole, zero_f}
 use Rattle.numeric.specs.Whole.{layer_of}
 use Rattle.mixing.specs.Limits.{max_layers}
-use Rattle.mixing.specs.Mix.{number_of, rounds_of, mix_answer, mix_layers}
+use Rattle.mixing.specs.Mix.{rounds_of, mix_answer, mix_layers}
 use Rattle.cylinder.specs.declared.Cylinder.{Cylinder}
 use Rattle.draw_events.specs.Lent.{max_events}
 use Rattle.set_points.specs.declared.SetPoints.{SetPoints}
@@ -53,13 +55,18 @@ fits_tank t = eqb (length t.temps) max_layers && eqb (length t.fitted) max_heate
 abbrev pub Answers : StorageTank → List Step → List Stepped → Type 0
 Answers t asked after = (r : Report) → answers t r (map step asked) ≡ after
 
+-- accepted for 0, and else the refusal of that number
+abbrev pub outcome : ℕ → Result (Unit {0}) Refusal
+outcome zero = Ok tt
+outcome (suc n) = Err (refusal_with (suc n))
+
 abbrev pub Holds : Figure → Type 0
-Holds (steps m t asked after) = T (fits_design m && fits asked) × (made m ≡ record { number = 0; tank = t }) × Answers (made m).tank asked after
+Holds (steps m t asked after) = T (fits_design m && fits asked) × (made m ≡ record { outcome = outcome 0; tank = t }) × Answers (made m).tank asked after
 Holds (lent t asked after) = T (fits_tank t && fits asked) × Answers t asked after
 Holds (make m answer) = T (fits_design m) × (made m ≡ answer)
 Holds (layer position layers k) = layer_of position layers ≡ k
 Holds (mix layers volume number rounds after) =
-    (number_of (mix_answer layers volume) ≡ number) × (rounds_of (mix_answer layers volume) ≡ rounds) × (mix_layers layers volume ≡ after)
+    (number_in (mix_answer layers volume) ≡ number) × (rounds_of (mix_answer layers volume) ≡ rounds) × (mix_layers layers volume ≡ after)
 
 -- a tuple of two: a list of figures is proved one after another
 abbrev pub ◌and◌ : {A B : Type 0} → A → B → A × B
@@ -83,12 +90,12 @@ padded zero xs x = []
 padded (suc n) [] x = x ∷ padded n [] x
 padded (suc n) (y ∷ ys) x = y ∷ padded n ys x
 
--- a heater whose thermostat sits with it, where the absent thermostat's double is `ignored`; and one whose thermostat sits elsewhere
-abbrev pub heater : Float → Float → Float → Heater
-heater rated position ignored = record { rated = rated; position = position; has_thermostat = false; thermostat = ignored }
+-- a heater whose thermostat sits with it; and one whose thermostat sits elsewhere
+abbrev pub heater : Float → Float → Heater
+heater rated position = record { rated = rated; position = position; thermostat = None }
 
 abbrev pub heater_with : Float → Float → Float → Heater
-heater_with rated position thermostat = record { rated = rated; position = position; has_thermostat = true; thermostat = thermostat }
+heater_with rated position thermostat = record { rated = rated; position = position; thermostat = Some thermostat }
 
 abbrev pub design : Cylinder → ℕ → List Heater → TankDesign
 design c initial fitted = record {
@@ -101,7 +108,7 @@ design c initial fitted = record {
   ambient = c.ambient;
   timestep = c.timestep;
   heaters = length fitted;
-  fitted = padded max_heaters fitted (record { rated = nan; position = whole 7; has_thermostat = true; thermostat = nan });
+  fitted = padded max_heaters fitted (record { rated = nan; position = whole 7; thermostat = Some nan });
 }
 
 abbrev pub settings : List SetPoints → List Setting
@@ -136,7 +143,7 @@ tank_with c n fitted temps flags = record {
 
 abbrev pub tank : Cylinder → List Heater → List Float → List Bool → StorageTank
 tank c fitted temps flags =
-    tank_with c (length fitted) (padded max_heaters fitted (heater zero_f zero_f zero_f)) (padded max_layers temps zero_f) (padded max_heaters flags false)
+    tank_with c (length fitted) (padded max_heaters fitted (heater zero_f zero_f)) (padded max_layers temps zero_f) (padded max_heaters flags false)
 
 -- the tank of a refused make
 abbrev pub no_tank : StorageTank
@@ -158,4 +165,4 @@ report energy used average recoverable lines = record {
 }
 
 abbrev pub answer : ℕ → StorageTank → Report → Stepped
-answer n t r = record { number = n; tank = t; report = r }
+answer n t r = record { outcome = outcome n; tank = t; report = r }

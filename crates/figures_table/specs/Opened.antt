@@ -45,7 +45,8 @@ unfolding I.round I.of_int I.of_bits I.add I.sub I.mul I.div I.neg I.lt I.le I.e
     Filling.take_share Filling.take_from Filling.take_below Filling.from_feed Filling.enters_warmer Refill.filling_of Refill.refill_layer Refill.refill_layers
     Refill.refill
     Event.event_mixing Event.event_of Event.temps_after_event Event.totals_after_event Event.event_finite Event.event_number
-    SetPoints.has_upper SetPoints.upper_of Switch.at_or_under_lower Switch.upper_missing_or_reached Switch.switch_on Switch.switch_off Heat.offers_to Heat.heated
+    SetPoints.has_upper SetPoints.upper_of Switch.at_or_under_lower Switch.upper_missing_or_reached Switch.switch_on Switch.switch_off
+    Heat.offers_to Heat.heated
     Loss.clearly_above Loss.over_upper Loss.standby_coefficient Loss.counted_temp Loss.standing_loss Loss.loss Loss.limited_temp Loss.surplus_term
     Losses.warmed Losses.loss_at Losses.losses Losses.temps_after Losses.charged_after Losses.surplus Losses.adjusted
     FinalTemps.heat_and_mix FinalTemps.adjusted_input FinalTemps.after_mixing FinalTemps.calc_final_temps Offer.offer

@@ -50,7 +50,7 @@ between fitted good first last rows =
 -- ---- one heater, of 160 kW at the bottom
 
 abbrev one : List Heater
-one = heater (whole 160) zero_f zero_f ∷ []
+one = heater (whole 160) zero_f ∷ []
 
 -- Equal set points are accepted: 160 kWh make 50 of 40, mixed 45, and then 50 of 45. In between each fault alone, an infinite set point on either side of the
 -- other, and one that is both not finite and alone, or not finite and above.
@@ -75,7 +75,7 @@ one_heater =
 -- ---- two heaters of 160 kW, of which the first as given, in the upper layer, works last
 
 abbrev pair : List Heater
-pair = heater (whole 160) (nearest 1 2) zero_f ∷ heater (whole 160) zero_f zero_f ∷ []
+pair = heater (whole 160) (nearest 1 2) ∷ heater (whole 160) zero_f ∷ []
 
 -- 160 kWh make 50 of 40 below, mixed 45, and 55 of 45 above; then 55 of 45 below, and 65 of 55 above, which ends at 60: 16 × 5 = 80 are surplus.
 -- In between the first faulty heater as given decides, whatever its fault.

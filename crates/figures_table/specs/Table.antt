@@ -54,7 +54,7 @@ fifty_point_four_nearest = refl
 
 -- 160 kW at position 0
 abbrev bottom : Heater
-bottom = heater (whole 160) zero_f zero_f
+bottom = heater (whole 160) zero_f
 
 -- two layers at 40 with it, step after step
 abbrev heated : List Step → List Stepped → Figure
@@ -74,7 +74,7 @@ abbrev losing : Cylinder
 losing = cylinder 2 32 27 (nearest 125 1000)
 
 abbrev pair : List Heater
-pair = heater (whole 1) zero_f zero_f ∷ heater (whole 1) zero_f zero_f ∷ []
+pair = heater (whole 1) zero_f ∷ heater (whole 1) zero_f ∷ []
 
 -- a heater that is off, and its losses
 abbrev idle : ℕ → HeaterLine
@@ -115,9 +115,9 @@ starred =
     (report zero_f zero_f (whole 36) (nearest 375 10) (idle 50 ∷ idle 0 ∷ [])) ∷ [])
     -- position 0.5 of 4 is layer 2; position 1, which 01 refuses, is layer 3 (02, R-2); lower equal to upper is accepted
     ∷ layer (nearest 5 10) 4 2
-    ∷ of_four (heater (whole 160) (nearest 5 10) zero_f) (40 ∷ 40 ∷ 45 ∷ 45 ∷ []) 160
+    ∷ of_four (heater (whole 160) (nearest 5 10)) (40 ∷ 40 ∷ 45 ∷ 45 ∷ []) 160
     ∷ layer (whole 1) 4 3
-    ∷ of_four (heater (whole 16) (whole 1) zero_f) (40 ∷ 40 ∷ 40 ∷ 41 ∷ []) 16
+    ∷ of_four (heater (whole 16) (whole 1)) (40 ∷ 40 ∷ 40 ∷ 41 ∷ []) 16
     ∷ heated (points 45 45 ∷ []) (warmed 45 40 false 160 ∷ [])
     ∷ []
 

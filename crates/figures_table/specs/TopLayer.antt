@@ -14,7 +14,7 @@ use Rattle.tank_model.specs.declared.Heater.{Heater}
 use Rattle.tank_model.specs.declared.HeaterLine.{HeaterLine}
 use Rattle.tank_model.specs.Members.{All}
 use Rattle.storage_tank.specs.declared.StorageTank.{StorageTank}
-use Rattle.figures_table.specs.Figure.{Figure, steps, lent, make, layer, Holds, ◌and◌, nearest, heater, heater_with, design, asks}
+use Rattle.figures_table.specs.Figure.{Figure, steps, lent, make, layer, Holds, ◌and◌, nearest, heater, heater_with, design, asks, outcome}
 use Rattle.figures_table.specs.Figure.{padded, tank_with, tank, no_tank, report, line, answer}
 use Rattle.figures_table.specs.Opened.{opened}
 
@@ -71,7 +71,7 @@ thermostat_in_the_lid =
 -- first makes 70 of that. The other way round it would begin at 60 and stay off
 
 abbrev around_one : List Heater
-around_one = heater (whole 320) one zero_f ∷ heater (whole 160) just_below_one zero_f ∷ []
+around_one = heater (whole 320) one ∷ heater (whole 160) just_below_one ∷ []
 
 abbrev lid_works_last : Figure
 lid_works_last =
@@ -84,7 +84,7 @@ lid_works_last =
 
 abbrev lent_at : ℕ → Bool → StorageTank
 lent_at top flag =
-    tank_with (layers_of_16 2) 1 (padded max_heaters (heater (whole 16) one nan ∷ []) (heater_with nan nan nan)) (padded max_layers (wholes (40 ∷ top ∷ [])) nan)
+    tank_with (layers_of_16 2) 1 (padded max_heaters (heater (whole 16) one ∷ []) (heater_with nan nan nan)) (padded max_layers (wholes (40 ∷ top ∷ [])) nan)
     (padded max_heaters (flag ∷ []) true)
 
 abbrev lent_tank : Figure
@@ -95,7 +95,7 @@ lent_tank =
 -- ---- what 5 still refuses
 
 abbrev refused : Heater → Figure
-refused h = make (design (layers_of_16 2) 40 (h ∷ [])) (record { number = 5; tank = no_tank })
+refused h = make (design (layers_of_16 2) 40 (h ∷ [])) (record { outcome = outcome 5; tank = no_tank })
 
 -- ---- the table
 
@@ -109,13 +109,13 @@ top_layer =
     ∷ thermostat_in_the_lid
     ∷ lid_works_last
     ∷ lent_tank
-    ∷ refused (heater (whole 160) just_above_one zero_f)
+    ∷ refused (heater (whole 160) just_above_one)
     ∷ refused (heater_with (whole 160) zero_f just_above_one)
-    ∷ refused (heater (whole 160) (nearest 3 2) zero_f)
+    ∷ refused (heater (whole 160) (nearest 3 2))
     ∷ refused (heater_with (whole 160) one (nearest 3 2))
-    ∷ refused (heater (whole 160) nan zero_f)
+    ∷ refused (heater (whole 160) nan)
     ∷ refused (heater_with (whole 160) one (neg one))
-    ∷ refused (heater (neg one) one zero_f)
+    ∷ refused (heater (neg one) one)
     ∷ []
 
 pub table : All Holds top_layer

@@ -8,10 +8,11 @@ mod print;
 
 use draw_events::event::MAX_EVENTS;
 use job_reader::reader::read_at;
+use job_records::Before;
 use set_points::SetPoints;
 use std::io;
 use storage_tank::{Report, StorageTank};
-use tank_model::{Heater, HeaterLine, Setting, Step, TankDesign};
+use tank_model::{Heater, Setting, Step, TankDesign};
 use working_order::MAX_HEATERS;
 
 // Two layers of 16 litres at 40 degrees, and a heater of 160 kW at the bottom.
@@ -19,8 +20,7 @@ fn make(rt: &impl Print) -> io::Result<StorageTank> {
     let heater = Heater {
         rated: 160.0,
         position: 0.0,
-        has_thermostat: false,
-        thermostat: 0.0,
+        thermostat: None,
     };
     let made = StorageTank::new(TankDesign {
         layers: 2,
@@ -34,30 +34,12 @@ fn make(rt: &impl Print) -> io::Result<StorageTank> {
         heaters: 1,
         fitted: [heater; MAX_HEATERS],
     });
-    print::made(rt, made)?;
+    print::made(rt, &made)?;
     Ok(made.tank)
 }
 
-// A report before the first step: any will do.
-fn no_report() -> Report {
-    let line = HeaterLine {
-        flag: false,
-        adjusted: 0.0,
-        supplied: 0.0,
-        losses: 0.0,
-        rounds: 0,
-    };
-    Report {
-        energy: 0.0,
-        used: 0.0,
-        average: 0.0,
-        recoverable: 0.0,
-        lines: [line; MAX_HEATERS],
-    }
-}
-
 // An hour, twice, with set points of 50 and 60 degrees; then one whose feed probe has dropped out.
-fn step(rt: &impl Print, tank: StorageTank, report: Report) -> io::Result<()> {
+fn step(rt: &impl Print, tank: StorageTank) -> io::Result<()> {
     let setting = Setting {
         points: SetPoints::Both(50.0, 60.0),
     };
@@ -72,39 +54,42 @@ fn step(rt: &impl Print, tank: StorageTank, report: Report) -> io::Result<()> {
         feed: 0.0 / 0.0,
         ..hour
     };
+    let report = Report::default(); // before the first step: any will do
     let first = tank.demand_hot_water(report, hour); // layers 45, 45; its heater is on and supplied 160
     let second = first.tank.demand_hot_water(first.report, hour); // layers 50, 50
-    let third = second.tank.demand_hot_water(second.report, dropped); // refused with 7; all as in `second`
-    print::stepped(rt, first)?;
-    print::stepped(rt, second)?;
-    print::stepped(rt, third)
+    let third = second.tank.demand_hot_water(second.report, dropped); // Err(Refusal::Draw), which is 7; all as in `second`
+    print::stepped(rt, &first)?;
+    print::stepped(rt, &second)?;
+    print::stepped(rt, &third)
 }
 
 fn mix(rt: &impl Print) -> io::Result<()> {
     let mut layers = [50.0, 40.0];
-    let answer = rearrange::mix::mix(&mut layers[..], 16.0); // MixAnswer::Mixed(1): one round, and layers 45, 45
-    print::mixed(rt, answer)?;
-    print::doubles(rt, &layers)
+    let answer = rearrange::mix::mix(&mut layers, 16.0); // Ok(1): one round, and layers 45, 45
+    print::mixed(rt, answer, &layers)
 }
 
 fn read(rt: &impl Print, bytes: &[u8]) -> io::Result<()> {
     // the position, then what came before it: a tank or not, how many heaters, a step or not
-    let tank = read_at(bytes, 0, false, 0, false); // its content is Record::Tank(..); tank.next is 64
-    let heater = read_at(bytes, tank.next, true, 0, false); // Record::Heater(..); heater.next is 95
-    let step = read_at(bytes, heater.next, true, 1, false); // Record::Step(..); step.next is 136, the end
-    let none = read_at(bytes, step.next, true, 1, true); // Record::Refused; none.next is 136 again
-    print::record(rt, tank)?;
-    print::record(rt, heater)?;
-    print::record(rt, step)?;
-    print::record(rt, none)
+    let mut before = Before::default();
+    let tank = read_at(bytes, 0, before); // its content is Ok(Record::Tank(..)); tank.next is 64
+    before.tank = true;
+    let heater = read_at(bytes, tank.next, before); // Ok(Record::Heater(..)); heater.next is 95
+    before.heaters = 1;
+    let step = read_at(bytes, heater.next, before); // Ok(Record::Step(..)); step.next is 136, the end
+    before.step = true;
+    let none = read_at(bytes, step.next, before); // Err(Refusal::Record); none.next is 136 again
+    for reading in [tank, heater, step, none] {
+        print::record(rt, &reading)?;
+    }
+    Ok(())
 }
 
 fn main(rt: HostRuntime) -> io::Result<()> {
     let tank = make(&rt)?;
-    step(&rt, tank, no_report())?;
+    step(&rt, tank)?;
     mix(&rt)?;
     let mut buf = [0; 4096];
-    let filled = streams::fill(&rt, b"first_tank", &mut buf);
-    let n = filled.count;
+    let n = streams::fill(&rt, b"first_tank", &mut buf).unwrap_or_else(|broken| broken.moved);
     read(&rt, &buf[..n])
 }

@@ -1,177 +1,140 @@
 // What the calls answer, in words and numbers, a line for each call and one for its layers.
-use draw_events::event::MAX_EVENTS;
+// Kept: a printing of its own beside that of figures, since this folder is copied to begin a program, and prints whole numbers in decimal.
 use job_records::{Reading, Record};
-use mixing::MixAnswer;
-use mixing::limits::MAX_LAYERS;
+use refusals::{Refusal, number_in};
 use set_points::SetPoints;
-use std::io;
-use storage_tank::{Made, Stepped};
-use tank_model::{HeaterLine, Setting};
-use working_order::MAX_HEATERS;
-
-pub fn word(rt: &impl Print, w: &[u8]) -> io::Result<()> {
-    rt.write_all(w)
-}
-
-pub fn number(rt: &impl Print, n: u64) -> io::Result<()> {
-    print!(rt; " {n}")
-}
+use std::{fmt, io};
+use storage_tank::{Made, Stepped, StorageTank};
 
 // A whole number in decimal (-0 as 0), any other double as the 16 hexadecimal digits of its bits.
-pub fn double(rt: &impl Print, x: f64) -> io::Result<()> {
-    if x > -1.0 {
-        if x < 18446744073709551616.0 {
+#[derive(Clone, Copy)]
+struct Double(f64);
+
+impl fmt::Display for Double {
+    fn fmt<W: fmt::Write>(&self, f: &mut fmt::Formatter<W>) -> fmt::Result {
+        let x = self.0;
+        if x > -1.0 && x < 18446744073709551616.0 {
             let n = std::num::saturating_f64_to_u64(x);
             if std::num::nearest_u64_to_f64(n) == x {
-                return number(rt, n);
+                return write!(f, "{n}");
+            }
+        }
+        let bits = numeric::bits::bits_of(x);
+        write!(f, "{bits:016x}")
+    }
+}
+
+// Each after a space.
+#[derive(Clone, Copy)]
+struct Row<'a>(&'a [f64]);
+
+impl fmt::Display for Row<'_> {
+    fn fmt<W: fmt::Write>(&self, f: &mut fmt::Formatter<W>) -> fmt::Result {
+        for x in self.0 {
+            write!(f, " {}", Double(*x))?;
+        }
+        Ok(())
+    }
+}
+
+// Those that are given.
+#[derive(Clone, Copy)]
+struct Points(SetPoints);
+
+impl fmt::Display for Points {
+    fn fmt<W: fmt::Write>(&self, f: &mut fmt::Formatter<W>) -> fmt::Result {
+        match self.0 {
+            SetPoints::Neither => Ok(()),
+            SetPoints::Lower(lower) => write!(f, ", lower {}", Double(lower)),
+            SetPoints::Upper(upper) => write!(f, ", upper {}", Double(upper)),
+            SetPoints::Both(lower, upper) => {
+                write!(f, ", lower {}, upper {}", Double(lower), Double(upper))
             }
         }
     }
-    let bits = numeric::bits::bits_of(x);
-    print!(rt; " {bits:016x}")
 }
 
-pub fn doubles(rt: &impl Print, xs: &[f64]) -> io::Result<()> {
-    for x in xs {
-        double(rt, *x)?;
+// A record's kind and some of its values: of a step its first volume and its first heater's set points.
+#[derive(Clone, Copy)]
+struct Contents(Record);
+
+impl fmt::Display for Contents {
+    fn fmt<W: fmt::Write>(&self, f: &mut fmt::Formatter<W>) -> fmt::Result {
+        match &self.0 {
+            Record::Tank(t) => write!(
+                f,
+                ", tank, layers {}, initial {}",
+                t.layers,
+                Double(t.initial)
+            ),
+            Record::Heater(h) => {
+                write!(
+                    f,
+                    ", heater, rated {}, position {}",
+                    Double(h.rated),
+                    Double(h.position)
+                )
+            }
+            Record::Step(s) => write!(
+                f,
+                ", step, feed {}, volume {}{}",
+                Double(s.feed),
+                Double(s.volumes[0]),
+                Points(s.settings[0].points)
+            ),
+        }
     }
-    word(rt, b"\n")
 }
 
-// The layers of a tank of n, the bottom first: none of a tank that counts more than it has places.
-fn layers(rt: &impl Print, n: usize, temps: [f64; MAX_LAYERS]) -> io::Result<()> {
-    if n > MAX_LAYERS {
-        return Ok(());
+// The layers of a tank, the bottom first: none of one that counts more than it has places.
+fn layers(rt: &impl Print, t: &StorageTank) -> io::Result<()> {
+    if let Some(shown) = t.temps.get(..t.layers) {
+        println!(rt; "  layers{}", Row(shown))?;
     }
-    word(rt, b"  layers")?;
-    doubles(rt, &temps[..n])
+    Ok(())
 }
 
 // The number of the refusal, 0 where accepted.
-pub fn made(rt: &impl Print, m: Made) -> io::Result<()> {
-    word(rt, b"make")?;
-    number(rt, m.number as u64)?;
-    word(rt, b"\n")?;
-    let t = m.tank;
-    let temps = t.temps;
-    layers(rt, t.layers, temps)
-}
-
-fn heater(rt: &impl Print, x: HeaterLine) -> io::Result<()> {
-    word(rt, b"  heater: flag")?;
-    number(rt, x.flag as u64)?;
-    word(rt, b", adjusted")?;
-    double(rt, x.adjusted)?;
-    word(rt, b", supplied")?;
-    double(rt, x.supplied)?;
-    word(rt, b", losses")?;
-    double(rt, x.losses)?;
-    word(rt, b", rounds")?;
-    number(rt, x.rounds as u64)?;
-    word(rt, b"\n")
+pub fn made(rt: &impl Print, m: &Made) -> io::Result<()> {
+    println!(rt; "make {}", number_in(&m.outcome))?;
+    layers(rt, &m.tank)
 }
 
 // With the line of the first heater.
-pub fn stepped(rt: &impl Print, s: Stepped) -> io::Result<()> {
-    let t = s.tank;
-    let r = s.report;
-    word(rt, b"step")?;
-    number(rt, s.number as u64)?;
-    word(rt, b": energy")?;
-    double(rt, r.energy)?;
-    word(rt, b", volume")?;
-    double(rt, r.used)?;
-    word(rt, b", average")?;
-    double(rt, r.average)?;
-    word(rt, b", recoverable")?;
-    double(rt, r.recoverable)?;
-    word(rt, b"\n")?;
-    let temps = t.temps;
-    layers(rt, t.layers, temps)?;
-    let lines = r.lines;
-    heater(rt, lines[0])
+pub fn stepped(rt: &impl Print, s: &Stepped) -> io::Result<()> {
+    let r = &s.report;
+    println!(rt;
+        "step {}: energy {}, volume {}, average {}, recoverable {}",
+        number_in(&s.outcome),
+        Double(r.energy),
+        Double(r.used),
+        Double(r.average),
+        Double(r.recoverable)
+    )?;
+    layers(rt, &s.tank)?;
+    let heater = &r.lines[0];
+    println!(rt;
+        "  heater: flag {}, adjusted {}, supplied {}, losses {}, rounds {}",
+        u8::from(heater.flag),
+        Double(heater.adjusted),
+        Double(heater.supplied),
+        Double(heater.losses),
+        heater.rounds
+    )
 }
 
-pub fn mixed(rt: &impl Print, a: MixAnswer) -> io::Result<()> {
-    match a {
-        MixAnswer::Mixed(rounds) => {
-            word(rt, b"mix 0: rounds")?;
-            number(rt, rounds as u64)?;
-        }
-        MixAnswer::Refused(n) => {
-            word(rt, b"mix")?;
-            number(rt, n as u64)?;
-        }
+pub fn mixed(rt: &impl Print, answer: Result<usize, Refusal>, layers: &[f64]) -> io::Result<()> {
+    match answer {
+        Ok(rounds) => println!(rt; "mix 0: rounds {rounds}")?,
+        Err(refusal) => println!(rt; "mix {}", refusal.number())?,
     }
-    word(rt, b"\n  layers")
-}
-
-fn points(rt: &impl Print, p: SetPoints) -> io::Result<()> {
-    match p {
-        SetPoints::Neither => Ok(()),
-        SetPoints::Lower(lower) => {
-            word(rt, b", lower")?;
-            double(rt, lower)
-        }
-        SetPoints::Upper(upper) => {
-            word(rt, b", upper")?;
-            double(rt, upper)
-        }
-        SetPoints::Both(lower, upper) => {
-            word(rt, b", lower")?;
-            double(rt, lower)?;
-            word(rt, b", upper")?;
-            double(rt, upper)
-        }
-    }
-}
-
-// A step's first volume and its first heater's set points.
-fn asked(
-    rt: &impl Print,
-    volumes: [f64; MAX_EVENTS],
-    settings: [Setting; MAX_HEATERS],
-) -> io::Result<()> {
-    word(rt, b", volume")?;
-    double(rt, volumes[0])?;
-    let first = settings[0];
-    let p = first.points;
-    points(rt, p)
-}
-
-fn contents(rt: &impl Print, r: Reading) -> io::Result<()> {
-    let content = r.content;
-    match content {
-        Record::Tank(t) => {
-            word(rt, b", tank, layers")?;
-            number(rt, t.layers as u64)?;
-            word(rt, b", initial")?;
-            double(rt, t.initial)
-        }
-        Record::Heater(h) => {
-            word(rt, b", heater, rated")?;
-            double(rt, h.rated)?;
-            word(rt, b", position")?;
-            double(rt, h.position)
-        }
-        Record::Step(p) => {
-            word(rt, b", step, feed")?;
-            double(rt, p.feed)?;
-            let volumes = r.volumes;
-            let settings = r.settings;
-            asked(rt, volumes, settings)
-        }
-        Record::Refused => Ok(()),
-    }
+    println!(rt; "  layers{}", Row(layers))
 }
 
 // A record's number, 0 or 11, the position after it, and some of its values.
-pub fn record(rt: &impl Print, r: Reading) -> io::Result<()> {
-    word(rt, b"read")?;
-    let content = r.content;
-    number(rt, job_reader::read::number_of(content) as u64)?;
-    word(rt, b": next")?;
-    number(rt, r.next as u64)?;
-    contents(rt, r)?;
-    word(rt, b"\n")
+pub fn record(rt: &impl Print, r: &Reading) -> io::Result<()> {
+    match r.content {
+        Ok(content) => println!(rt; "read 0: next {}{}", r.next, Contents(content)),
+        Err(refusal) => println!(rt; "read {}: next {}", refusal.number(), r.next),
+    }
 }

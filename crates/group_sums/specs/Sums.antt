@@ -1,8 +1,8 @@
 -- States sums over a running group's layers alone, from bottom to below end, and the guess at a total (01, Mix). No definition of a call cites this.
-use Rattle.std.specs.Prelude.{ℕ, ◌-◌, true, cond, ◌⊎◌, ◌≡◌, List, eqb, get_or, Float}
+use Rattle.std.specs.Prelude.{ℕ, ◌-◌, true, cond, ◌⊎◌, ◌≡◌, List, eqb, get_or, Float, Option, Some, None}
 use Rattle.std.specs.Float.{nan}
 use Rattle.std.specs.Float.Ieee.Scale.{finite}
-use Rattle.numeric.specs.Double.{◌⊕◌, ◌⊛◌, one_f, dbl, ◌⊖◌, zero_f, four_f}
+use Rattle.numeric.specs.Double.{◌⊕◌, ◌⊛◌, one_f, dbl, ◌⊖◌, four_f}
 use Rattle.numeric.specs.Zeros.{SameValue}
 use Rattle.numeric.specs.Iterate.{iterate}
 use Rattle.numeric.specs.Sum2.{nothing_added, accumulate, add_at}
@@ -39,14 +39,14 @@ two_f = dbl 0x4000_0000_0000_0000
 abbrev eight_f : Float
 eight_f = dbl 0x4020_0000_0000_0000
 
-unfoldable pub guessed_total : ℕ → Float → Float → Float → Float → Float
+unfoldable pub guessed_total : ℕ → Float → Float → Float → Float → Option Float
 guessed_total more v temp p own =
-    cond (eqb more 0) (p ⊕ own)
-    (cond (eqb more 1) (two_f ⊛ v ⊛ temp ⊕ own)
-    (cond (eqb more 2) (four_f ⊛ v ⊛ temp ⊕ (own ⊖ p))
-    (cond (eqb more 3) (four_f ⊛ v ⊛ temp ⊕ own)
-    (cond (eqb more 4) (four_f ⊛ v ⊛ temp ⊕ (own ⊕ p))
-    (cond (eqb more 5) (eight_f ⊛ v ⊛ temp ⊕ (own ⊖ two_f ⊛ v ⊛ temp))
-    (cond (eqb more 6) (eight_f ⊛ v ⊛ temp ⊕ (own ⊖ p))
-    (cond (eqb more 7) (eight_f ⊛ v ⊛ temp ⊕ own)
-    (cond (eqb more 8) (eight_f ⊛ v ⊛ temp ⊕ (own ⊕ p)) zero_f))))))))
+    cond (eqb more 0) (Some (p ⊕ own))
+    (cond (eqb more 1) (Some (two_f ⊛ v ⊛ temp ⊕ own))
+    (cond (eqb more 2) (Some (four_f ⊛ v ⊛ temp ⊕ (own ⊖ p)))
+    (cond (eqb more 3) (Some (four_f ⊛ v ⊛ temp ⊕ own))
+    (cond (eqb more 4) (Some (four_f ⊛ v ⊛ temp ⊕ (own ⊕ p)))
+    (cond (eqb more 5) (Some (eight_f ⊛ v ⊛ temp ⊕ (own ⊖ two_f ⊛ v ⊛ temp)))
+    (cond (eqb more 6) (Some (eight_f ⊛ v ⊛ temp ⊕ (own ⊖ p)))
+    (cond (eqb more 7) (Some (eight_f ⊛ v ⊛ temp ⊕ own))
+    (cond (eqb more 8) (Some (eight_f ⊛ v ⊛ temp ⊕ (own ⊕ p))) None))))))))

@@ -14,11 +14,9 @@ pub fn heat_at(vol: &[f64; MAX_LAYERS], bottom: usize, end: usize, x: f64) -> Ac
     requires { (bottom ≤ end) × (end ≤ max_layers) }
     ensures { result ≡ heat_sum vol.now x bottom end }
 {
-    let mut heat = numeric::sum2::start();
-    let mut k = bottom;
-    while k < end {
-        heat = numeric::sum2::add_term(heat, vol[k] * x);
-        k += 1;
+    let mut heat = Accumulator::start();
+    for k in bottom..end {
+        heat = heat.add_term(vol[k] * x);
     }
     heat
 }
@@ -41,43 +39,28 @@ pub fn add_known(a: Accumulator, b: f64, c: f64, known: Accumulator) -> Accumula
     if c == b {
         return known;
     }
-    numeric::sum2::add_term(a, b)
+    a.add_term(b)
 }
 
-// The total of a layer's own heat and the heat p of each of more + 1 layers, in few roundings: nearly always what Sum2 gives. It is a guess, and 0 where
-// there is none; it does not wait for a sum of the layers. p is v × temp; its multiples lose nothing and are worked from 2 v, 4 v and 8 v, so that they do
-// not wait for p.
-pub fn guess_total(more: usize, v: f64, temp: f64, p: f64, own: f64) -> f64
+// The total of a layer's own heat and the heat p of each of more + 1 layers, in few roundings: nearly always what Sum2 gives. It is a guess, of up to nine
+// layers; it does not wait for a sum of the layers. p is v × temp; its multiples lose nothing and are worked from 2 v, 4 v and 8 v, so that they do not wait
+// for p.
+#[tactic(auto, unfolding(crate::specs::Sums::guessed_total))]
+pub fn guess_total(more: usize, v: f64, temp: f64, p: f64, own: f64) -> Option<f64>
     ensures { result ≡ guessed_total more v temp p own }
 {
-    if more == 0 {
-        return p + own;
+    match more {
+        0 => Some(p + own),
+        1 => Some((2.0 * v) * temp + own),
+        2 => Some((4.0 * v) * temp + (own - p)),
+        3 => Some((4.0 * v) * temp + own),
+        4 => Some((4.0 * v) * temp + (own + p)),
+        5 => Some((8.0 * v) * temp + (own - (2.0 * v) * temp)),
+        6 => Some((8.0 * v) * temp + (own - p)),
+        7 => Some((8.0 * v) * temp + own),
+        8 => Some((8.0 * v) * temp + (own + p)),
+        _ => None,
     }
-    if more == 1 {
-        return (2.0 * v) * temp + own;
-    }
-    if more == 2 {
-        return (4.0 * v) * temp + (own - p);
-    }
-    if more == 3 {
-        return (4.0 * v) * temp + own;
-    }
-    if more == 4 {
-        return (4.0 * v) * temp + (own + p);
-    }
-    if more == 5 {
-        return (8.0 * v) * temp + (own - (2.0 * v) * temp);
-    }
-    if more == 6 {
-        return (8.0 * v) * temp + (own - p);
-    }
-    if more == 7 {
-        return (8.0 * v) * temp + own;
-    }
-    if more == 8 {
-        return (8.0 * v) * temp + (own + p);
-    }
-    0.0
 }
 
 // Whether a guess is the total.
@@ -85,7 +68,7 @@ pub fn is_total(heat: Accumulator, guess: f64) -> bool
     ensures { result ≡ true → total heat ≡ guess }
 {
     if guess > 0.0 {
-        return numeric::compare::is_same(numeric::sum2::total_of(heat), guess);
+        return numeric::compare::is_same(heat.total_of(), guess);
     }
     false
 }

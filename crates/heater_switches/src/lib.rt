@@ -11,23 +11,16 @@ use set_points::SetPoints;
 fn is_at_or_under(t: f64, lower: f64) -> bool
     ensures { result ≡ (lt t lower || narrow_close t lower) }
 {
-    if t < lower {
-        return true;
-    }
-    if t > lower {
-        return numeric::close::is_close_above(t, lower, numeric::close::NARROW);
-    }
-    numeric::close::is_narrow_close(t, lower)
+    t < lower || numeric::close::is_narrow_close(t, lower)
 }
 
+#[tactic(auto, using(crate::proofs::Given::under_cases))]
 fn is_at_or_under_lower(p: SetPoints, t: f64) -> bool
     ensures { result ≡ at_or_under_lower p t }
 {
-    match p {
-        SetPoints::Neither => false,
-        SetPoints::Lower(l) => is_at_or_under(t, l),
-        SetPoints::Upper(_) => false,
-        SetPoints::Both(l, _) => is_at_or_under(t, l),
+    match p.lower() {
+        Some(l) => is_at_or_under(t, l),
+        None => false,
     }
 }
 
@@ -35,37 +28,24 @@ fn is_at_or_under_lower(p: SetPoints, t: f64) -> bool
 fn is_reached(t: f64, upper: f64) -> bool
     ensures { result ≡ reached t upper }
 {
-    if t > upper {
-        return true;
-    }
-    if t < upper {
-        return numeric::close::is_close_below(t, upper, numeric::close::NARROW);
-    }
-    numeric::close::is_narrow_close(t, upper)
+    t > upper || numeric::close::is_narrow_close(t, upper)
 }
 
 // No upper set point: off; else at or under a lower set point: on; else unchanged.
+#[tactic(auto, using(set_points::proofs::Given::upper_is_some), unfolding(crate::specs::Switch::switch_on))]
 pub fn determine_heat_source_switch_on(p: SetPoints, t: f64, flag: bool) -> bool
     ensures { result ≡ switch_on p t flag }
 {
-    if set_points::has_upper(p) {
-        if is_at_or_under_lower(p, t) {
-            return true;
-        }
-        return flag;
-    }
-    false
+    p.upper().is_some() && (is_at_or_under_lower(p, t) || flag)
 }
 
 // Off with no upper set point, or with it reached; else unchanged.
+#[tactic(auto, using(set_points::proofs::Given::upper_cases), unfolding(crate::specs::Switch::switch_off, crate::specs::Switch::upper_missing_or_reached))]
 pub fn determine_heat_source_switch_off(p: SetPoints, t: f64, flag: bool) -> bool
     ensures { result ≡ switch_off p t flag }
 {
-    if set_points::has_upper(p) {
-        if is_reached(t, set_points::upper_of(p)) {
-            return false;
-        }
-        return flag;
+    match p.upper() {
+        Some(u) => flag && !is_reached(t, u),
+        None => false,
     }
-    false
 }

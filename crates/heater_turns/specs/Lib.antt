@@ -1,3 +1,3 @@
--- What a step's turns leave in lent arrays, and what they note there.
+-- What a step's turns leave in the state that they are lent, and what they note.
 pub mod Notes
 pub mod Lent

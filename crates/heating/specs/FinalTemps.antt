@@ -1,11 +1,12 @@
 -- States `calc_final_temps` (01, Heat; Mix; Losses and limit; refusal 9): what the layers come to that are offered heat, whatever each is offered.
-use Rattle.std.specs.Prelude.{ℕ, ◌≡◌, List, Float}
+use Rattle.std.specs.Prelude.{ℕ, ◌≡◌, List, Float, Result, Ok, Err}
 use Rattle.std.specs.Float.{nan}
+use Rattle.refusals.specs.declared.Refusal.{Refusal}
+use Rattle.refusals.specs.declared.Refusal.TheVariants.{OutOfOrder}
 use Rattle.mixing.specs.Rearrange.{Mixing, sorted, unsorted, rearrange}
-use Rattle.mixing.specs.Mix.{mixing_number, mixing_rounds}
 use Rattle.cylinder.specs.declared.Cylinder.{Cylinder}
 use Rattle.set_points.specs.declared.SetPoints.{SetPoints}
-use Rattle.heating.specs.declared.final_temps.FinalTempsAnswer.{FinalTempsAnswer}
+use Rattle.heating.specs.declared.final_temps.HeatFigures.{HeatFigures}
 use Rattle.heating.specs.Heat.{input_of, heated}
 use Rattle.thermal_losses.specs.Losses as Losses
 use Rattle.thermal_losses.specs.Losses.{adjusted}
@@ -48,12 +49,16 @@ module _ (c : Cylinder) (vol : List Float) (p : SetPoints) (layer : ℕ) (offers
   unfoldable pub calc_final_temps : FinalTemps
   calc_final_temps = after_mixing heat_and_mix
 
--- what the code answers for it
-abbrev pub final_temps_answer : FinalTemps → FinalTempsAnswer
-final_temps_answer f = record { number = mixing_number f.mixing; rounds = mixing_rounds f.mixing; adjusted = f.adjusted; losses = f.losses }
+-- what the code answers: refusal 9 for a mixing out of order, else its rounds and the figures
+abbrev pub heat_answer : Mixing → Float → Float → Result HeatFigures Refusal
+heat_answer (sorted mixed k) adjusted losses = Ok (record { rounds = k; adjusted = adjusted; losses = losses })
+heat_answer unsorted adjusted losses = Err OutOfOrder
+
+abbrev pub final_temps_answer : FinalTemps → Result HeatFigures Refusal
+final_temps_answer f = heat_answer f.mixing f.adjusted f.losses
 
 -- r is the answer for f, which left these layers and these charged losses
-pub record Calculated (f : FinalTemps) (r : FinalTempsAnswer) (temps charged : List Float) : Type 0 where
+pub record Calculated (f : FinalTemps) (r : Result HeatFigures Refusal) (temps charged : List Float) : Type 0 where
   pub answers : r ≡ final_temps_answer f
   pub leaves : temps ≡ f.temps
   pub charges : charged ≡ f.charged

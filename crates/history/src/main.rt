@@ -3,7 +3,9 @@
 #![tactic(auto)]
 
 use input_window::window::MAX_WINDOW;
+use job_history::record::History;
+use job_windows::input::run_input;
 
 fn main(rt: HostRuntime) {
-    job_windows::input::run_input(&rt, b"history", true, [0; MAX_WINDOW]);
+    run_input::<History>(&rt, b"history", [0; MAX_WINDOW]);
 }

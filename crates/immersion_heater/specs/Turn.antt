@@ -1,8 +1,11 @@
 -- States one turn of a heater (01, Turn): from its switch-on to its switch-off in one step, with that step's set points. It is a shell over
 -- `calc_final_temps` (Heat to Losses and limit).
-use Rattle.std.specs.Prelude.{ℕ, ◌≡◌, Bool, cond, ◌&&◌, List, get_or, Float}
+use Rattle.std.specs.Prelude.{ℕ, ◌≡◌, Bool, cond, ◌&&◌, List, get_or, Float, Result, Ok, Err}
 use Rattle.std.specs.Float.{nan}
 use Rattle.std.specs.Float.Ieee.Scale.{finite}
+use Rattle.refusals.specs.declared.Refusal.{Refusal}
+use Rattle.refusals.specs.declared.Refusal.TheVariants.{OutOfOrder, NotFinite}
+use Rattle.refusals.specs.Refusals.{number_in}
 use Rattle.numeric.specs.Double.{◌⊛◌}
 use Rattle.mixing.specs.Rearrange.{Mixing, sorted, unsorted}
 use Rattle.mixing.specs.Mix.{mixing_rounds}
@@ -76,10 +79,18 @@ number_after (sorted temps k) finite = cond finite 0 10
 unfoldable pub turn_number : Cylinder → Turned → ℕ
 turn_number c u = number_after u.mixing (turn_finite c u)
 
+-- what a turn of this number answers with: 10 is for what is not finite
+abbrev pub outcome_if : Bool → Result Unit Refusal
+outcome_if finite = cond finite (Ok tt) (Err NotFinite)
+
+abbrev pub outcome_after : Mixing → Bool → Result Unit Refusal
+outcome_after unsorted finite = Err OutOfOrder
+outcome_after (sorted temps k) finite = outcome_if finite
+
 -- what the code answers for the turn u
 abbrev pub turn_answer : Cylinder → Turned → TurnAnswer
 turn_answer c u = record {
-  number = turn_number c u;
+  outcome = outcome_after u.mixing (turn_finite c u);
   ran = u.ran;
   flag = u.flag;
   adjusted = u.adjusted;
@@ -88,8 +99,9 @@ turn_answer c u = record {
   rounds = u.rounds;
 }
 
--- r is the answer for the turn u, which left these layers and these charged losses
+-- r is the answer for the turn u, with its number, and left these layers and these charged losses
 pub record TurnAnswered (c : Cylinder) (u : Turned) (r : TurnAnswer) (temps charged : List Float) : Type 0 where
+  pub number : number_in r.outcome ≡ turn_number c u
   pub answers : r ≡ turn_answer c u
   pub leaves : temps ≡ u.temps
   pub charges : charged ≡ u.charged

@@ -1,5 +1,5 @@
 -- States when the run of a window of the input goes on (01, Job), and what a job leaves of the window for the next one.
-use Rattle.std.specs.Prelude.{ℕ, ◌+◌, ◌-◌, Bool, false, not, ◌&&◌, ◌||◌, List, ◌++◌, ◌≡◌, leb, take, drop}
+use Rattle.std.specs.Prelude.{ℕ, ◌+◌, ◌-◌, Bool, not, ◌&&◌, ◌||◌, List, ◌++◌, ◌≡◌, leb, take, drop}
 use Rattle.job_records.specs.Windows.{max_record}
 use Rattle.job_model.specs.declared.Job.{Job}
 use Rattle.job_model.specs.Windows.{moved_up}
@@ -18,7 +18,7 @@ moved from xs i = take i (drop from xs) ++ drop i xs
 
 -- the job stands at the beginning of the next window, whose first bytes are what it left of this one
 abbrev pub next_window : Job → ℕ → Next
-next_window j end = record { job = moved_up j; held = end - j.at; failed = false }
+next_window j end = record { job = moved_up j; held = end - j.at }
 
 pub record Left (before after : List ℕ) (j : Job) (end : ℕ) (r : Next) : Type 0 where
   pub next : r ≡ next_window j end

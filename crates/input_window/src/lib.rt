@@ -5,10 +5,9 @@ pub mod window;
 
 use job_model::Job;
 
-// After a window: the job, which stands at the beginning of the next one, how many of that one's bytes are there already, and whether a read or a write failed.
+// After a window: the job, which stands at the beginning of the next one, and how many of that one's bytes are there already.
 #[derive(Clone, Copy)]
 pub struct Next {
     pub job: Job,
     pub held: usize,
-    pub failed: bool,
 }

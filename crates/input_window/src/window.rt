@@ -1,7 +1,7 @@
 // Room for a record in a window, and what is left of the window moved down for the next.
-ghost use Rattle.std.specs.Prelude.{◌≡◌, ◌+◌, ◌-◌, ◌≤◌, ◌<◌, length};
+ghost use Rattle.std.specs.Prelude.{◌≡◌, ◌+◌, ◌≤◌, ◌<◌, length};
 ghost use Rattle.job_model.specs.Windows.{moved_up};
-ghost use Rattle.input_window.specs.Window.{max_window, goes_on, moved, Left};
+ghost use Rattle.input_window.specs.Window.{max_window, goes_on, Left};
 
 use crate::Next;
 use job_model::Job;
@@ -17,25 +17,7 @@ pub fn goes_on(size: usize, last: bool, ended: bool, at: usize) -> bool
     requires { (at ≤ size) × (size ≤ max_window) }
     ensures { result ≡ goes_on size last ended at }
 {
-    if ended {
-        return false;
-    }
-    if last {
-        return true;
-    }
-    at + MAX_RECORD <= size
-}
-
-// The bytes from one index to another, moved down to the first; those after them are left.
-fn move_down(buf: &mut [u8], from: usize, end: usize)
-    requires { (from ≤ end) × (end ≤ length buf.old) }
-    ensures { buf.new ≡ moved from buf.old (end - from) }
-{
-    let mut i = 0;
-    while i < end - from {
-        buf[i] = buf[from + i];
-        i += 1;
-    }
+    !ended && (last || at + MAX_RECORD <= size)
 }
 
 // The next window begins at the next record.
@@ -43,10 +25,11 @@ fn moved_up(job: Job) -> Job
     requires { job.before + job.at < 9223372036854775808 }
     ensures { result ≡ moved_up job }
 {
-    let mut r = job;
-    r.before = job.before + job.at;
-    r.at = 0;
-    r
+    Job {
+        before: job.before + job.at,
+        at: 0,
+        ..job
+    }
 }
 
 // What a job leaves of a window that ends at `end`: the bytes from its next record on, which begin the next window.
@@ -54,11 +37,9 @@ pub fn next_window(buf: &mut [u8], job: Job, end: usize) -> Next
     requires { (job.at ≤ end) × (end ≤ length buf.old) × (job.before + job.at < 9223372036854775808) }
     ensures { Left buf.old buf.new job end result }
 {
-    let at = job.at;
-    move_down(buf, at, end);
+    buf.copy_within(job.at..end, 0);
     Next {
         job: moved_up(job),
-        held: end - at,
-        failed: false,
+        held: end - job.at,
     }
 }

@@ -3,62 +3,27 @@
 #![tactic(auto)]
 
 ghost use Rattle.std.specs.Prelude.{◌≤◌, length};
-ghost use Rattle.job_model.specs.Job.{Countable, record_run};
-ghost use Rattle.job_model.specs.Handed.{Sends, Handed};
+ghost use Rattle.job_model.specs.Job.{record_run};
+ghost use Rattle.job_model.specs.Handed.{Handed};
 
-use job_model::{Job, Ran};
+use job_model::{CutShort, Ran};
+use job_run::lines::Figures;
+use job_run::start::start;
+use job_windows::window::run_window;
 use std::time::Clock;
 
-// The next record: its lines handed on, and the job after it.
-fn print_record(rt: &(impl Print + Eprint + Clock), bytes: &[u8], job: Job) -> Ran
-    requires { Countable job }
-    ensures { Sends (record_run bytes.now job) result }
-{
-    let mut lines = [0; 4096];
-    let p = job_run::record::next_record(&mut lines, bytes, job);
-    let n = p.length;
-    let s = streams::send(rt, b"job", &lines[..n]);
-    let next = p.job;
-    Ran {
-        job: next,
-        taken: s.count,
-        failed: s.failed,
-    }
-}
-
-// All records, until the job has ended or a write fails. What a write does cannot be spoken of: the answer says where the job stands and what was taken.
-fn run(rt: &(impl Print + Eprint + Clock), bytes: &[u8]) -> Ran
+// All records, as those of a window that nothing follows, until the job has ended or a write fails. What a write does cannot be spoken of: the answer says
+// where the job stands and what was taken.
+fn run(rt: &(impl Print + Eprint + Clock), bytes: &[u8]) -> Result<Ran, CutShort>
     requires { length bytes.now ≤ 65536 }
     ensures { Handed (record_run bytes.now) (length bytes.now) result }
 {
-    let mut job = job_run::start::start();
-    let mut taken = 0;
-    while !job.ended {
-        let p = print_record(rt, bytes, job);
-        let next = p.job;
-        taken += p.taken;
-        if p.failed {
-            return Ran {
-                job,
-                taken,
-                failed: true,
-            };
-        }
-        job = next;
-    }
-    Ran {
-        job,
-        taken,
-        failed: false,
-    }
+    run_window::<Figures>(rt, b"job", bytes, true, start())
 }
 
 fn main(rt: HostRuntime) {
     let mut buf = [0; 65536];
-    let read = streams::fill(&rt, b"job", &mut buf);
-    if read.failed {
-        return;
+    if let Ok(n) = streams::fill(&rt, b"job", &mut buf) {
+        let _ = run(&rt, &buf[..n]);
     }
-    let n = read.count;
-    run(&rt, &buf[..n]);
 }

@@ -2,21 +2,17 @@
 use mathlib.Core.Path.{◌≡◌, refl, sym, ap, ◌∙◌}
 use mathlib.Core.Logic.{◌≢◌}
 use mathlib.Core.List.{List, [], ◌∷◌, map}
-use mathlib.Core.Bool.{Bool, false}
 use Prim.Native.Nat.{ℕ, zero, suc, ◌+◌, ◌≤◌, ◌<◌}
 use native.Mathlib.Nat.{le_of_suc-le-suc, not-suc-le-zero}
 use native.Mathlib.Omega.{arith}
 use lib.ListN.{length, get_or, set, take, length-set, length-replicate, length-map, get_or-map}
 use lib.Seq.{length-take-le, get_or-take, get_or-set_same, get_or-set_other}
-use lib.Ieee.{Float, nan}
-use Rattle.numeric.specs.Double.{zero_f}
 use Rattle.numeric.specs.Copy.{copied, copied_next}
-use Rattle.numeric.specs.Tabulate.{at_tabulate}
 use Rattle.draw_events.specs.Event.{Event}
 use Rattle.immersion_heater.specs.Turn.{turn_number}
 use Rattle.working_order.specs.Order.{max_heaters}
 use Rattle.working_order.proofs.Entries.{rising_length}
-use Rattle.tank_model.specs.declared.HeaterLine.{HeaterLine}
+use Rattle.tank_model.specs.declared.TurnNotes.{TurnNotes}
 use Rattle.tank_model.specs.declared.Setting.{Setting}
 use Rattle.tank_model.specs.declared.Step.{Step}
 use Rattle.tank_model.specs.Fixed.{Fixed, State, heater_of}
@@ -27,30 +23,27 @@ use Rattle.tank_model.specs.Run.{End, refused, done, Run, first, run}
 use Rattle.tank_model.specs.Work.{DrawOff, Heating, zero_line, unheated, Turn, turn_of, after_turn, work_turn, turns, then_turns, begin, work}
 use Rattle.tank_model.proofs.Members.{all_map, all_both}
 use Rattle.tank_model.proofs.Order.{many_placed, order_below, order_once}
-use Rattle.tank_arrays.specs.Arrays.{two_each, line_in, lines_in}
 use Rattle.tank_refusals.proofs.FirstRefusal.{step_counts}
-use Rattle.heater_turns.specs.Notes.{Notes, notes_in, no_notes, with_turn, with_turns}
+use Rattle.heater_turns.specs.Notes.{no_course, no_notes, with_turn, with_turns}
 use Rattle.storage_tank.specs.declared.StorageTank.{StorageTank}
 use Rattle.storage_tank.specs.Tank.{fixed_in, state_in}
 use Rattle.storage_tank.specs.Answers.{work_of}
 use Rattle.job_history.specs.declared.TurnFact.{TurnFact}
 use Rattle.job_history.specs.Facts.{fact_of, facts_of, step_turns, no_fact, no_facts}
-use Rattle.job_history.specs.Lent.{fact_by, fact_in, facts_in, NotedTurns}
+use Rattle.job_history.specs.Lent.{fact_in, facts_in, NotedTurns}
 
 -- notes with a place for each heater
-pub record Long (x : Notes) : Type 0 where
+pub record Long (x : TurnNotes) : Type 0 where
   pub lines_long : length x.lines ≡ max_heaters
-  pub course_long : length x.course ≡ two_each
-  pub ran_long : length x.ran ≡ max_heaters
+  pub courses_long : length x.courses ≡ max_heaters
 
 pub none_long : Long no_notes
-none_long = record { lines_long = length-replicate max_heaters zero_line; course_long = length-replicate two_each zero_f; ran_long = length-replicate max_heaters false }
+none_long = record { lines_long = length-replicate max_heaters zero_line; courses_long = length-replicate max_heaters no_course }
 
-turn_long : (u : Turn) (x : Notes) → Long x → Long (with_turn u x)
+turn_long : (u : Turn) (x : TurnNotes) → Long x → Long (with_turn u x)
 turn_long u x l = record {
   lines_long = length-set x.lines u.heater _ ∙ l.lines_long;
-  course_long = length-set (set x.course u.heater u.start) (max_heaters + u.heater) _ ∙ length-set x.course u.heater _ ∙ l.course_long;
-  ran_long = length-set x.ran u.heater _ ∙ l.ran_long;
+  courses_long = length-set x.courses u.heater _ ∙ l.courses_long;
 }
 
 order_many : (f : Fixed) → length (working_order f) ≡ length f.heaters
@@ -58,42 +51,26 @@ unfolding working_order
 order_many f = rising_length (λ (h : ℕ). (heater_of f h).position) (length f.heaters)
 
 module _ (f : Fixed) (a : Step) where
-  abbrev told : Notes → ℕ → TurnFact
+  abbrev told : TurnNotes → ℕ → TurnFact
   told x h = fact_in a.settings x h
 
   -- another heater's turn leaves what is told of h
-  kept : (u : Turn) (x : Notes) (h : ℕ) → h < max_heaters → u.heater < max_heaters → u.heater ≢ h → told (with_turn u x) h ≡ told x h
+  kept : (u : Turn) (x : TurnNotes) (h : ℕ) → h < max_heaters → u.heater < max_heaters → u.heater ≢ h → told (with_turn u x) h ≡ told x h
   kept u x h l m n =
-      rw (
-        get_or-set_other x.lines u.heater h _ zero_line (λ e. n (sym e)),
-        get_or-set_other (set x.course u.heater u.start) (max_heaters + u.heater) h u.finish nan (λ e. omega arith),
-        get_or-set_other x.course u.heater h u.start nan (λ e. n (sym e)),
-        get_or-set_other (set x.course u.heater u.start) (max_heaters + u.heater) (max_heaters + h) u.finish nan (λ e. n (omega arith)),
-        get_or-set_other x.course u.heater (max_heaters + h) u.start nan (λ e. omega arith),
-        get_or-set_other x.ran u.heater h _ false (λ e. n (sym e)),
-      )
+      rw (get_or-set_other x.lines u.heater h _ zero_line (λ e. n (sym e)), get_or-set_other x.courses u.heater h _ no_course (λ e. n (sym e)))
 
-  all_kept : (us : List Turn) (x : Notes) (h : ℕ) → h < max_heaters → All (λ (u : Turn). (u.heater < max_heaters) × (u.heater ≢ h)) us → told (with_turns us x) h ≡ told x h
+  all_kept : (us : List Turn) (x : TurnNotes) (h : ℕ) → h < max_heaters → All (λ (u : Turn). (u.heater < max_heaters) × (u.heater ≢ h)) us → told (with_turns us x) h ≡ told x h
   unfolding with_turns
   all_kept [] x h l q = refl
   all_kept (u ∷ us) x h l q = all_kept us (with_turn u x) h l q.1 ∙ kept u x h l q.0.0 q.0.1
 
   -- a turn's own notes tell it
-  own : (h : ℕ) (s : Heating) (x : Notes) → Long x → h < max_heaters → told (with_turn (turn_of f (points_of a) h s) x) h ≡ fact_of (turn_of f (points_of a) h s)
+  own : (h : ℕ) (s : Heating) (x : TurnNotes) → Long x → h < max_heaters → told (with_turn (turn_of f (points_of a) h s) x) h ≡ fact_of (turn_of f (points_of a) h s)
   unfolding turn_of
   own h s x l m =
-      let u = turn_of f (points_of a) h s in
       let lines = l.lines_long in
-      let course = l.course_long in
-      let ran = l.ran_long in
-      let long = length-set x.course h u.start in
-      rw (
-        get_or-set_same x.lines h _ zero_line (omega arith),
-        get_or-set_other (set x.course h u.start) (max_heaters + h) h u.finish nan (λ e. omega arith),
-        get_or-set_same x.course h u.start nan (omega arith),
-        get_or-set_same (set x.course h u.start) (max_heaters + h) u.finish nan (omega arith),
-        get_or-set_same x.ran h _ false (omega arith),
-      )
+      let courses = l.courses_long in
+      rw (get_or-set_same x.lines h _ zero_line (omega arith), get_or-set_same x.courses h _ no_course (omega arith))
 
   abbrev run_of : List ℕ → Heating → Run Turn Heating
   run_of hs s = run (work_turn f (points_of a)) hs s
@@ -111,7 +88,7 @@ module _ (f : Fixed) (a : Step) where
       go zero r = unfold first turn_of in (q.0, r)
       go (suc n) r = unfold first turn_of in (q.0, tt)
 
-  pub turns_told : (hs : List ℕ) (s : Heating) (x : Notes) → Long x → Distinct hs → All (λ (h : ℕ). h < max_heaters) hs
+  pub turns_told : (hs : List ℕ) (s : Heating) (x : TurnNotes) → Long x → Distinct hs → All (λ (h : ℕ). h < max_heaters) hs
       → let us = (run_of hs s).parts in facts_of us ≡ facts_in a.settings (with_turns us x) (length us) hs
   unfolding run work_turn facts_of
   turns_told [] s x l d b = refl
@@ -210,11 +187,11 @@ first_of_first (suc k) zero xs l = absurd (not-suc-le-zero l)
 first_of_first (suc k) (suc n) [] l = refl
 first_of_first (suc k) (suc n) (x ∷ xs) l = ap (λ (ys : List ℕ). x ∷ ys) (first_of_first k n xs (le_of_suc-le-suc l))
 
-module _ (t : StorageTank) (a : Step) (count : ℕ) (x : Notes) (noted : NotedTurns t a count x) where
-  pub no_more : count ≤ t.heaters
+module _ (t : StorageTank) (a : Step) (x : TurnNotes) (noted : NotedTurns t a x) where
+  pub no_more : x.worked ≤ t.heaters
   no_more = let l = turns_few (fixed_in t) a (state_in t) in let m = many_placed t.heaters t.fitted in let e = noted.many in omega arith
 
-  module _ (some : count ≡ 0 → ⊥) where
+  module _ (some : x.worked ≡ 0 → ⊥) where
     pub few_heaters : t.heaters ≤ max_heaters
     few_heaters =
         let e = noted.many in
@@ -226,34 +203,28 @@ module _ (t : StorageTank) (a : Step) (count : ℕ) (x : Notes) (noted : NotedTu
         above (suc n) z = omega arith
 
     -- an array that holds the working order
-    pub step_told : (order : List ℕ) → take t.heaters order ≡ working_order (fixed_in t) → facts_in a.settings x count order ≡ step_turns t a
+    pub step_told : (order : List ℕ) → take t.heaters order ≡ working_order (fixed_in t) → facts_in a.settings x x.worked order ≡ step_turns t a
     unfolding step_turns
     step_told order e =
         let few = few_heaters in
         let m = many_placed t.heaters t.fitted in
-        ap (map (fact_in a.settings x)) (sym (first_of_first count t.heaters order no_more) ∙ ap (take count) e)
+        ap (map (fact_in a.settings x)) (sym (first_of_first x.worked t.heaters order no_more) ∙ ap (take x.worked) e)
         ∙ rw (noted.many, noted.notes) (sym (work_told (fixed_in t) a (state_in t) (omega arith)))
 
 -- ---- the loop that tells them, which has come to k
 
-module _ (settings : List Setting) (figures : List Float) (flags : List Bool) (rounds : List ℕ) (course : List Float) (ran : List Bool) (count : ℕ) (order : List ℕ) (long : count ≤ length order) where
+module _ (settings : List Setting) (x : TurnNotes) (count : ℕ) (order : List ℕ) (long : count ≤ length order) where
   abbrev all : List TurnFact
-  all = facts_in settings (notes_in figures flags rounds course ran) count order
+  all = facts_in settings x count order
 
   pub all_many : length all ≡ count
   all_many = length-map (take count order) _ ∙ length-take-le count order long
 
-  module _ (k : ℕ) (l : k < count) (few : count ≤ max_heaters) (h : get_or order k 0 < max_heaters) where
-    line_is : get_or (lines_in figures flags rounds) (get_or order k 0) zero_line ≡ line_in figures flags rounds (get_or order k 0)
-    unfolding lines_in
-    line_is = at_tabulate (line_in figures flags rounds) max_heaters (get_or order k 0) zero_line h
-
-    pub one_told : set (copied k all no_facts) k (fact_by (get_or order k 0) settings (line_in figures flags rounds (get_or order k 0)) course ran) ≡ copied (k + 1) all no_facts
+  module _ (k : ℕ) (l : k < count) (few : count ≤ max_heaters) where
+    pub one_told : set (copied k all no_facts) k (fact_in settings x (get_or order k 0)) ≡ copied (k + 1) all no_facts
     one_told =
-        let d = fact_in settings (notes_in figures flags rounds course ran) 0 in
-        let here : get_or all k d ≡ fact_by (get_or order k 0) settings (line_in figures flags rounds (get_or order k 0)) course ran =
-        get_or-map (fact_in settings (notes_in figures flags rounds course ran)) (take count order) k 0
-        ∙ ap (fact_in settings (notes_in figures flags rounds course ran)) (get_or-take count order k 0 l)
-        ∙ ap (λ (x : HeaterLine). fact_by (get_or order k 0) settings x course ran) line_is in
+        let d = fact_in settings x 0 in
+        let here : get_or all k d ≡ fact_in settings x (get_or order k 0) =
+        get_or-map (fact_in settings x) (take count order) k 0 ∙ ap (fact_in settings x) (get_or-take count order k 0 l) in
         let many : length no_facts ≡ max_heaters = length-replicate max_heaters no_fact in
         ap (set (copied k all no_facts) k) (sym here) ∙ copied_next d k all no_facts (omega (arith, all_many)) (omega arith)

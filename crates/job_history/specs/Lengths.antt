@@ -2,10 +2,6 @@
 use Rattle.std.specs.Prelude.{ℕ, ◌+◌, ◌*◌}
 use Rattle.job_lines.specs.Lengths.{number_bytes, double_bytes}
 
--- a hyphen with its space
-abbrev pub missing_bytes : ℕ
-missing_bytes = 1 + 1
-
 -- the lower and the upper set point
 abbrev pub points_bytes : ℕ
 points_bytes = 2 * double_bytes

@@ -1,5 +1,5 @@
 -- States the lines of a step's history (01, Turn; demand 3): S with the step's index and number, and T for each turn.
-use Rattle.std.specs.Prelude.{ℕ, false, cond, List, [], ◌∷◌, ◌++◌, get_or}
+use Rattle.std.specs.Prelude.{ℕ, false, cond, List, [], ◌∷◌, ◌++◌, get_or, Option, Some, None, Float}
 use Rattle.std.specs.Float.{nan}
 use Rattle.set_points.specs.declared.SetPoints.{SetPoints}
 use Rattle.set_points.specs.declared.SetPoints.TheVariants.{Neither, Lower, Upper, Both}
@@ -11,6 +11,11 @@ use Rattle.job_history.specs.declared.Turns.{Turns}
 -- a hyphen for what is missing
 abbrev pub missing_text : List ℕ
 missing_text = space ∷ 45 ∷ []
+
+-- a set point that may be missing
+abbrev pub point_text : Option Float → List ℕ
+point_text (Some x) = double_text x
+point_text None = missing_text
 
 -- the lower and the upper set point
 unfoldable pub points_text : SetPoints → List ℕ

@@ -1,103 +1,98 @@
 // The lines of a step's history.
 ghost use Rattle.std.specs.Prelude.{◌+◌, ◌*◌, ◌≤◌};
+ghost use Rattle.refusals.specs.Refusals.{number_in};
 ghost use Rattle.working_order.specs.Order.{max_heaters};
-ghost use Rattle.job_lines.specs.Put.{PutWithin, PutWhole};
-ghost use Rattle.job_lines.specs.Lengths.{head_bytes, max_place};
-ghost use Rattle.job_history.specs.Lines.{missing_text, points_text, course_text, outcome_text, turn_line, turn_lines, history_lines};
-ghost use Rattle.job_history.specs.Lengths.{missing_bytes, points_bytes, course_bytes, outcome_bytes, turn_bytes};
+ghost use Rattle.job_lines.specs.Put.{Writes, PutWhole};
+ghost use Rattle.job_lines.specs.Lengths.{double_bytes, head_bytes, max_place};
+ghost use Rattle.job_history.specs.Lines.{point_text, points_text, course_text, outcome_text, turn_line, turn_lines, history_lines};
+ghost use Rattle.job_history.specs.Lengths.{points_bytes, course_bytes, outcome_bytes, turn_bytes};
 
 use crate::{TurnFact, Turns};
-use job_lines::text::{put_byte, put_double, put_number};
+use job_lines::lines::put_head;
+use job_lines::text::Writer;
+use refusals::Refusal;
 use set_points::SetPoints;
 use working_order::MAX_HEATERS;
 
-// A space and a hyphen.
-fn put_missing(buf: &mut [u8], at: usize) -> usize
-    requires { at + missing_bytes ≤ max_place }
-    ensures { PutWithin buf.old at missing_text missing_bytes buf.new result }
+// A space, and the set point or a hyphen.
+fn put_point(w: &mut Writer, point: Option<f64>)
+    requires { w.old.at + double_bytes ≤ max_place }
+    ensures puts { Writes w.old (point_text point) w.new }
+    ensures within { w.new.at ≤ w.old.at + double_bytes }
 {
-    let a = put_byte(buf, at, b' ');
-    put_byte(buf, a, b'-')
-}
-
-fn put_points(buf: &mut [u8], at: usize, p: SetPoints) -> usize
-    requires { at + points_bytes ≤ max_place }
-    ensures { PutWithin buf.old at (points_text p) points_bytes buf.new result }
-{
-    match p {
-        SetPoints::Neither => {
-            let a = put_missing(buf, at);
-            put_missing(buf, a)
-        }
-        SetPoints::Lower(l) => {
-            let a = put_double(buf, at, l);
-            put_missing(buf, a)
-        }
-        SetPoints::Upper(u) => {
-            let a = put_missing(buf, at);
-            put_double(buf, a, u)
-        }
-        SetPoints::Both(l, u) => {
-            let a = put_double(buf, at, l);
-            put_double(buf, a, u)
+    match point {
+        Some(x) => w.double(x),
+        None => {
+            w.byte(b' ');
+            w.byte(b'-');
         }
     }
+}
+
+// The lower and the upper set point.
+fn put_points(w: &mut Writer, p: SetPoints)
+    requires { w.old.at + points_bytes ≤ max_place }
+    ensures puts { Writes w.old (points_text p) w.new }
+    ensures within { w.new.at ≤ w.old.at + points_bytes }
+{
+    put_point(w, p.lower());
+    put_point(w, p.upper());
 }
 
 // T, the heater, its thermostat layer at the begin and at the end, and its set points.
-fn put_course(buf: &mut [u8], at: usize, x: TurnFact) -> usize
-    requires { at + course_bytes ≤ max_place }
-    ensures { PutWithin buf.old at (course_text x) course_bytes buf.new result }
+fn put_course(w: &mut Writer, x: TurnFact)
+    requires { w.old.at + course_bytes ≤ max_place }
+    ensures puts { Writes w.old (course_text x) w.new }
+    ensures within { w.new.at ≤ w.old.at + course_bytes }
 {
-    let a = put_byte(buf, at, b'T');
-    let b = put_number(buf, a, x.heater);
-    let c = put_double(buf, b, x.start);
-    let d = put_double(buf, c, x.finish);
-    let p = x.points;
-    put_points(buf, d, p)
+    w.byte(b'T');
+    w.number(x.heater);
+    w.double(x.start);
+    w.double(x.finish);
+    put_points(w, x.points);
 }
 
 // Whether the heater ran, its flag, its supply and the rounds of its mixing, and the line's end.
-fn put_outcome(buf: &mut [u8], at: usize, x: TurnFact) -> usize
-    requires { at + outcome_bytes ≤ max_place }
-    ensures { PutWithin buf.old at (outcome_text x) outcome_bytes buf.new result }
+fn put_outcome(w: &mut Writer, x: TurnFact)
+    requires { w.old.at + outcome_bytes ≤ max_place }
+    ensures puts { Writes w.old (outcome_text x) w.new }
+    ensures within { w.new.at ≤ w.old.at + outcome_bytes }
 {
-    let a = put_number(buf, at, job_lines::lines::flag_number(x.ran));
-    let b = put_number(buf, a, job_lines::lines::flag_number(x.flag));
-    let c = put_double(buf, b, x.supplied);
-    let d = put_number(buf, c, x.rounds);
-    put_byte(buf, d, b'\n')
+    w.number(usize::from(x.ran));
+    w.number(usize::from(x.flag));
+    w.double(x.supplied);
+    w.number(x.rounds);
+    w.byte(b'\n');
 }
 
-fn put_turn_line(buf: &mut [u8], at: usize, x: TurnFact) -> usize
-    requires { at + turn_bytes ≤ max_place }
-    ensures { PutWithin buf.old at (turn_line x) turn_bytes buf.new result }
+fn put_turn_line(w: &mut Writer, x: TurnFact)
+    requires { w.old.at + turn_bytes ≤ max_place }
+    ensures puts { Writes w.old (turn_line x) w.new }
+    ensures within { w.new.at ≤ w.old.at + turn_bytes }
 {
-    let a = put_course(buf, at, x);
-    put_outcome(buf, a, x)
+    put_course(w, x);
+    put_outcome(w, x);
 }
 
 // The lines of the first `count` turns.
-fn put_turn_lines(buf: &mut [u8], at: usize, count: usize, facts: [TurnFact; MAX_HEATERS]) -> usize
-    requires { (count ≤ max_heaters) × (at ≤ head_bytes + 1) }
-    ensures { PutWithin buf.old at (turn_lines count facts) (turn_bytes * count) buf.new result }
+fn put_turn_lines(w: &mut Writer, count: usize, facts: [TurnFact; MAX_HEATERS])
+    requires { (count ≤ max_heaters) × (w.old.at ≤ head_bytes + 1) }
+    ensures puts { Writes w.old (turn_lines count facts) w.new }
+    ensures within { w.new.at ≤ w.old.at + turn_bytes * count }
 {
-    let mut a = at;
-    let mut k = 0;
-    while k < count {
-        let x = facts[k];
-        a = put_turn_line(buf, a, x);
-        k += 1;
+    for k in 0..count {
+        put_turn_line(w, facts[k]);
     }
-    a
 }
 
-pub fn history_lines(buf: &mut [u8], index: usize, number: u8, r: Turns) -> usize
+// A step's history: its head, and a line for each turn.
+pub fn history_lines(buf: &mut [u8], index: usize, outcome: Result<(), Refusal>, r: Turns) -> usize
     requires { r.count ≤ max_heaters }
-    ensures { PutWhole (history_lines index number r) buf.old buf.new result }
+    ensures { PutWhole (history_lines index (number_in outcome) r) buf.old buf.new result }
 {
-    let a = job_lines::lines::put_head(buf, index, number);
-    let b = put_byte(buf, a, b'\n');
-    let facts = r.facts;
-    put_turn_lines(buf, b, r.count, facts)
+    let mut w = Writer { buf, at: 0 };
+    put_head(&mut w, index, outcome);
+    w.byte(b'\n');
+    put_turn_lines(&mut w, r.count, r.facts);
+    w.at
 }

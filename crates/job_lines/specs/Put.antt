@@ -2,7 +2,8 @@
 use Rattle.std.specs.Prelude.{ℕ, suc, ◌+◌, ◌≤◌, ◌≡◌, refl, List, [], ◌∷◌, ◌++◌, length, take, drop, set}
 use Rattle.std.proofs.Common.{arith, add-zero, sym, ap, ◌∙◌, length-append, take_all, take_at}
 use Rattle.std.proofs.lemmas.List.Edits.{sets}
-use Rattle.std.proofs.Math.Seq.{length-sets, take-nil}
+use Rattle.std.proofs.Math.Seq.{take-nil}
+use Rattle.job_lines.specs.declared.text.Writer.{Writer}
 use Rattle.job_lines.specs.Lengths.{max_text}
 
 -- the text as far as it fits, from the first place on, and what the buffer held after it
@@ -20,10 +21,10 @@ pub record Put (before : List ℕ) (at : ℕ) (text after : List ℕ) (next : �
   pub stands : after ≡ sets before at text
   pub ends : next ≡ at + length text
 
--- a text is put so, and has at most `most` bytes
-pub record PutWithin (before : List ℕ) (at : ℕ) (text : List ℕ) (most : ℕ) (after : List ℕ) (next : ℕ) : Type 0 where
-  pub puts : Put before at text after next
-  pub within : next ≤ at + most
+-- a text is put at a writer's place, which moves past it; the buffer stays the one that was lent
+pub record Writes (x : Writer) (text : List ℕ) (y : Writer) : Type 0 where
+  pub same : y.buf.ghost_name ≡ x.buf.ghost_name
+  pub puts : Put x.buf.now x.at text y.buf.now y.at
 
 pub sets_append : (b : List ℕ) (at : ℕ) (t u : List ℕ) → sets b at (t ++ u) ≡ sets (sets b at t) (at + length t) u
 sets_append b at [] u = rw add-zero
@@ -40,8 +41,11 @@ put_then {b} {at} {t} {c} {i} {u} {d} {j} p q = record {
 pub put_nothing : (b : List ℕ) (at : ℕ) → Put b at [] b at
 put_nothing b at = record { stands = refl; ends = omega arith }
 
-pub put_length : {b : List ℕ} {at : ℕ} {t c : List ℕ} {i : ℕ} → Put b at t c i → length c ≡ length b
-put_length {b} {at} {t} p = ap length p.stands ∙ length-sets b at t
+pub writes_then : {x y z : Writer} {t u : List ℕ} → Writes x t y → Writes y u z → Writes x (t ++ u) z
+writes_then p q = record { same = q.same ∙ p.same; puts = put_then p.puts q.puts }
+
+pub writes_nothing : (x : Writer) → Writes x [] x
+writes_nothing x = record { same = refl; puts = put_nothing x.buf.now x.at }
 
 sets_behind : (x : ℕ) (b : List ℕ) (i : ℕ) (t : List ℕ) → sets (x ∷ b) (suc i) t ≡ x ∷ sets b i t
 sets_behind x b i [] = refl

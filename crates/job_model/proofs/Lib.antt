@@ -7,3 +7,4 @@ pub mod EmptyInput
 pub mod RecordWindow
 pub mod Windowed
 pub mod WindowLoop
+pub mod Given

@@ -4,6 +4,9 @@ use native.Mathlib.Omega.{arith}
 use mathlib.Core.Bool.{Bool, true, false, cond, not, ◌&&◌}
 use mathlib.Core.List.{List, []}
 use mathlib.Core.Logic.{◌⊎◌, inl, inr}
+use Rattle.std.specs.Prelude.{Result, Ok, Err}
+use Rattle.refusals.specs.Refusals.{number_in}
+use Rattle.refusals.specs.declared.Refusal.{Refusal}
 use mathlib.Core.Path.{◌≡◌, refl}
 use lib.ListN.{length}
 use lib.Dec.{eqb}
@@ -13,13 +16,13 @@ use Rattle.tank_model.specs.declared.Step.{Step}
 use Rattle.tank_model.specs.Checks.{heaters_check}
 use Rattle.storage_tank.specs.Calls.{made}
 use Rattle.job_records.specs.declared.Record.{Record}
-use Rattle.job_records.specs.declared.Record.TheVariants.{Tank, Heater as HeaterCase, Step as StepCase, Refused}
+use Rattle.job_records.specs.declared.Record.TheVariants.{Tank, Heater as HeaterCase, Step as StepCase}
 use Rattle.job_records.specs.declared.Reading.{Reading}
 use Rattle.job_records.specs.WellFormed.{WellFormed}
-use Rattle.job_records.specs.Records.{refused_at}
+use Rattle.job_records.specs.Records.{design_of, refused_at}
 use Rattle.job_records.proofs.ReadLaws.{read_either, well_formed_moves}
 use Rattle.job_model.specs.declared.Job.{Job}
-use Rattle.job_model.specs.Job.{RecordRun, design_of, with_heater, step_of, reading_of, ended_job, offset_of, with_tank, refused_run, made_run, heater_run, StepText, step_run, end_run, run_of, run_record}
+use Rattle.job_model.specs.Job.{RecordRun, with_heater, came_before, reading_of, ended_job, offset_of, with_tank, refused_run, made_run, heater_run, StepText, step_run, end_run, run_of, run_record}
 
 -- the job ends here, with no step more
 abbrev pub Ends : Job → RecordRun → Type 0
@@ -54,7 +57,7 @@ module _ (j : Job) where
     unfolding made_run
     made_goes d =
         let m = made d in
-        either Goes (eqb m.number 0) (record { job = with_tank j next d m.tank; text = [] }) (refused_run j m.number) (inr (refl, refl, omega arith, refl)) (inl (refused_ends m.number))
+        either Goes (eqb (number_in m.outcome) 0) (record { job = with_tank j next d m.tank; text = [] }) (refused_run j (number_in m.outcome)) (inr (refl, refl, omega arith, refl)) (inl (refused_ends (number_in m.outcome)))
 
     heater_goes : (h : Heater) → Goes (heater_run j next h)
     unfolding heater_run
@@ -72,12 +75,12 @@ module _ (j : Job) where
     unfolding step_run
     step_counted text a = refl
 
-  of_goes : (text : StepText) (bytes : List ℕ) (r : Reading) (x : Record) → Goes r.next (run_of text bytes j r x)
+  of_goes : (text : StepText) (bytes : List ℕ) (next : ℕ) (x : Result Record Refusal) → Goes next (run_of text bytes j next x)
   unfolding run_of
-  of_goes text bytes r (Tank t) = made_goes r.next (design_of t)
-  of_goes text bytes r (HeaterCase h) = heater_goes r.next h
-  of_goes text bytes r (StepCase p) = step_goes r.next text (step_of p r.volumes r.settings)
-  of_goes text bytes r Refused = inl (end_ends (length bytes) _)
+  of_goes text bytes next (Ok (Tank t)) = made_goes next (design_of t)
+  of_goes text bytes next (Ok (HeaterCase h)) = heater_goes next h
+  of_goes text bytes next (Ok (StepCase a)) = step_goes next text a
+  of_goes text bytes next (Err e) = inl (end_ends (length bytes) _)
 
   -- the law
   abbrev pub Moves : ℕ → RecordRun → Type 0
@@ -89,19 +92,19 @@ module _ (j : Job) where
 
   pub record_moves : (text : StepText) (bytes : List ℕ) → Moves (length bytes) (run_record text bytes j)
   unfolding run_record run_of
-  record_moves text bytes = go (reading_of bytes j) (read_either bytes j.at j.has_tank j.design.heaters (not (eqb j.steps 0)))
+  record_moves text bytes = go (reading_of bytes j) (read_either bytes j.at (came_before j))
     where
-      go : (r : Reading) → WellFormed bytes j.at j.has_tank j.design.heaters (not (eqb j.steps 0)) r ⊎ (r ≡ refused_at j.at) → Moves (length bytes) (run_of text bytes j r r.content)
-      go r (inl w) = goes_moves (length bytes) r.next (run_of text bytes j r r.content) (well_formed_moves bytes j.at j.has_tank j.design.heaters (not (eqb j.steps 0)) r w) (of_goes text bytes r r.content)
+      go : (r : Reading) → WellFormed bytes j.at (came_before j) r ⊎ (r ≡ refused_at j.at) → Moves (length bytes) (run_of text bytes j r.next r.content)
+      go r (inl w) = goes_moves (length bytes) r.next (run_of text bytes j r.next r.content) (well_formed_moves bytes j.at (came_before j) r w) (of_goes text bytes r.next r.content)
       go r (inr e) = rw e (inl (end_ends (length bytes) _))
 
 -- whatever is printed of its steps, a job goes from record to record in the same way
 pub same_job : (text other : StepText) (bytes : List ℕ) (j : Job) → (run_record text bytes j).job ≡ (run_record other bytes j).job
 unfolding run_record run_of step_run
-same_job text other bytes j = go (reading_of bytes j) (reading_of bytes j).content
+same_job text other bytes j = go (reading_of bytes j).next (reading_of bytes j).content
   where
-    go : (r : Reading) (x : Record) → (run_of text bytes j r x).job ≡ (run_of other bytes j r x).job
-    go r (Tank t) = refl
-    go r (HeaterCase h) = refl
-    go r (StepCase p) = refl
-    go r Refused = refl
+    go : (next : ℕ) (x : Result Record Refusal) → (run_of text bytes j next x).job ≡ (run_of other bytes j next x).job
+    go next (Ok (Tank t)) = refl
+    go next (Ok (HeaterCase h)) = refl
+    go next (Ok (StepCase a)) = refl
+    go next (Err e) = refl

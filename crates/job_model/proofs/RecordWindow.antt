@@ -4,6 +4,9 @@ use native.Mathlib.Omega.{arith}
 use mathlib.Core.Bool.{Bool, true, false, cond, not, ◌&&◌}
 use mathlib.Core.List.{List, []}
 use mathlib.Core.Logic.{◌⊎◌, inl, inr}
+use Rattle.std.specs.Prelude.{Result, Ok, Err}
+use Rattle.refusals.specs.Refusals.{number_in}
+use Rattle.refusals.specs.declared.Refusal.{Refusal}
 use mathlib.Core.Path.{◌≡◌, refl}
 use borrow.Author.Tests.{eqb-true, eqb-false, eq-eqb, ne_eqb}
 use lib.Dec.{eqb}
@@ -14,15 +17,15 @@ use Rattle.tank_model.specs.declared.Step.{Step}
 use Rattle.tank_model.specs.Checks.{heaters_check}
 use Rattle.storage_tank.specs.Calls.{made}
 use Rattle.job_records.specs.declared.Record.{Record}
-use Rattle.job_records.specs.declared.Record.TheVariants.{Tank, Heater as HeaterCase, Step as StepCase, Refused}
+use Rattle.job_records.specs.declared.Record.TheVariants.{Tank, Heater as HeaterCase, Step as StepCase}
 use Rattle.job_records.specs.declared.Reading.{Reading}
 use Rattle.job_records.specs.WellFormed.{WellFormed}
-use Rattle.job_records.specs.Records.{refused_at}
+use Rattle.job_records.specs.Records.{design_of, refused_at}
 use Rattle.job_records.specs.Windows.{Window, AreBytes, max_record, moved_to}
 use Rattle.job_records.proofs.ReadLaws.{read_either, well_formed_moves}
 use Rattle.job_records.proofs.WindowLaws.{window_reads}
 use Rattle.job_model.specs.declared.Job.{Job}
-use Rattle.job_model.specs.Job.{RecordRun, design_of, with_heater, step_of, offset_of, reading_of, ended_job, with_tank, refused_run, made_run, heater_run, StepText, step_run, end_run, run_of, run_record}
+use Rattle.job_model.specs.Job.{RecordRun, with_heater, offset_of, came_before, reading_of, ended_job, with_tank, refused_run, made_run, heater_run, StepText, step_run, end_run, run_of, run_record}
 use Rattle.job_model.specs.Windows.{in_whole, run_in_whole}
 
 -- the record at a window's position can be read there: nothing follows the window, or no record reaches past it
@@ -50,7 +53,7 @@ module _ (j : Job) where
     unfolding made_run
     made_whole d =
         let m = made d in
-        rw same_next (alike (eqb m.number 0) (record { job = with_tank (in_whole j) (j.before + next) d m.tank; text = [] }) (refused_run (in_whole j) m.number) (record { job = with_tank j next d m.tank; text = [] }) (refused_run j m.number) refl (refused_whole m.number))
+        rw same_next (alike (eqb (number_in m.outcome) 0) (record { job = with_tank (in_whole j) (j.before + next) d m.tank; text = [] }) (refused_run (in_whole j) (number_in m.outcome)) (record { job = with_tank j next d m.tank; text = [] }) (refused_run j (number_in m.outcome)) refl (refused_whole (number_in m.outcome)))
 
     heater_whole : (h : Heater) → heater_run (in_whole j) (offset_of j + (next - j.at)) h ≡ run_in_whole (heater_run j next h)
     unfolding heater_run
@@ -81,26 +84,26 @@ module _ (s w : List ℕ) (j : Job) (placed : j.at ≤ length w) (inside : j.bef
       rw (same_offset j, same_end)
       (alike (eqb j.at (length w) && not (eqb (offset_of j) 0)) (record { job = ended_job (in_whole j); text = [] }) (refused_run (in_whole j) n) (record { job = ended_job j; text = [] }) (refused_run j n) refl (refused_whole j n))
 
-  of_whole : (text : StepText) (r : Reading) → j.at ≤ r.next → (x : Record) → run_of text s (in_whole j) (moved_to j.at (offset_of j) r) x ≡ run_in_whole (run_of text w j r x)
+  of_whole : (text : StepText) (next : ℕ) → j.at ≤ next → (x : Result Record Refusal) → run_of text s (in_whole j) (offset_of j + (next - j.at)) x ≡ run_in_whole (run_of text w j next x)
   unfolding run_of
-  of_whole text r l (Tank t) = made_whole j r.next l (design_of t)
-  of_whole text r l (HeaterCase h) = heater_whole j r.next l h
-  of_whole text r l (StepCase p) = step_whole j r.next l text (step_of p r.volumes r.settings)
-  of_whole text r l Refused = end_whole _
+  of_whole text next l (Ok (Tank t)) = made_whole j next l (design_of t)
+  of_whole text next l (Ok (HeaterCase h)) = heater_whole j next l h
+  of_whole text next l (Ok (StepCase a)) = step_whole j next l text a
+  of_whole text next l (Err e) = end_whole _
 
   reading_moves : j.at ≤ (reading_of w j).next
-  reading_moves = go (reading_of w j) (read_either w j.at j.has_tank j.design.heaters (not (eqb j.steps 0)))
+  reading_moves = go (reading_of w j) (read_either w j.at (came_before j))
     where
-      go : (r : Reading) → WellFormed w j.at j.has_tank j.design.heaters (not (eqb j.steps 0)) r ⊎ (r ≡ refused_at j.at) → j.at ≤ r.next
-      go r (inl x) = let m = (well_formed_moves w j.at j.has_tank j.design.heaters (not (eqb j.steps 0)) r x).0 in omega arith
+      go : (r : Reading) → WellFormed w j.at (came_before j) r ⊎ (r ≡ refused_at j.at) → j.at ≤ r.next
+      go r (inl x) = let m = (well_formed_moves w j.at (came_before j) r x).0 in omega arith
       go r (inr e) = rw e (omega arith)
 
 -- what the reading is in the whole input
 reading_whole : (s : List ℕ) → AreBytes s → (w : List ℕ) (j : Job) → Window s j.before w → Ready s w j → reading_of s (in_whole j) ≡ moved_to j.at (offset_of j) (reading_of w j)
-reading_whole s bytes w j window ready = window_reads s bytes j.before w window j.at ready j.has_tank j.design.heaters (not (eqb j.steps 0))
+reading_whole s bytes w j window ready = window_reads s bytes j.before w window j.at ready (came_before j)
 
 -- the law
 pub record_window : (text : StepText) (s : List ℕ) → AreBytes s → (w : List ℕ) (j : Job) → Window s j.before w → j.at ≤ length w → Ready s w j → run_record text s (in_whole j) ≡ run_in_whole (run_record text w j)
 unfolding run_record
 record_window text s bytes w j window placed ready =
-    rw (reading_whole s bytes w j window ready) (of_whole s w j placed window.inside ready text (reading_of w j) (reading_moves s w j placed window.inside ready) (reading_of w j).content)
+    rw (reading_whole s bytes w j window ready) (of_whole s w j placed window.inside ready text (reading_of w j).next (reading_moves s w j placed window.inside ready) (reading_of w j).content)

@@ -1,17 +1,15 @@
 -- Proves what the loops over a job's records cite (01, Job): what is left of a job is its next record, and then what is left after it.
-use Prim.Native.Nat.{ℕ, zero, suc, ◌+◌, ◌-◌, ◌*◌, ◌≤◌}
+use Prim.Native.Nat.{ℕ, zero, suc, ◌-◌, ◌≤◌}
 use native.Mathlib.Omega.{arith}
 use native.Mathlib.Nat.{sub-zero}
 use native.Mathlib.Numerals.{add-one}
 use mathlib.Core.Bool.{Bool, true, false, true≢false}
-use mathlib.Core.List.{[], ◌++◌}
-use mathlib.Core.Path.{◌≡◌, refl, sym, ap, ◌∙◌}
-use lib.ListN.{length, length-append}
-use Rattle.job_lines.specs.Lengths.{max_text}
+use mathlib.Core.List.{[]}
+use mathlib.Core.Path.{◌≡◌, refl, ap}
 use Rattle.job_model.specs.declared.Job.{Job}
 use Rattle.job_model.specs.Job.{RecordRun, start_job, followed, run_from, run_all}
 use Rattle.job_model.proofs.Moves.{Moves}
-use Rattle.job_model.proofs.Ends.{Within, records_left, start_within, record_within, record_before, record_less}
+use Rattle.job_model.proofs.Ends.{Within, records_left, record_within, record_less}
 
 -- what is left of a job: where it ends, and what it still prints
 unfoldable pub rest_of : (Job → RecordRun) → ℕ → Job → RecordRun
@@ -24,29 +22,6 @@ rest_start f size = rw (sub-zero, add-one)
 pub rest_ended : (f : Job → RecordRun) (size : ℕ) (j : Job) → j.ended ≡ true → rest_of f size j ≡ record { job = j; text = [] }
 unfolding rest_of run_from
 rest_ended f size j e = rw e
-
--- where a loop stands that prints a job: what is left ends as the job does, and prints what is not printed yet
-pub record Printing (f : Job → RecordRun) (size : ℕ) (j : Job) (printed : ℕ) : Type 0 where
-  pub within : Within size j
-  pub first : j.before ≡ 0
-  pub ends : (rest_of f size j).job ≡ (run_all f size).job
-  pub counts : printed + length (rest_of f size j).text ≡ length (run_all f size).text
-  pub few : printed + max_text * records_left size j.ended j.at ≤ max_text * suc size
-
-pub printing_start : (f : Job → RecordRun) (size : ℕ) → Printing f size start_job 0
-printing_start f size = record {
-  within = start_within size;
-  first = refl;
-  ends = ap (λ (t : RecordRun). t.job) (rest_start f size);
-  counts = let e = ap (λ (t : RecordRun). length t.text) (rest_start f size) in omega arith;
-  few = omega arith;
-}
-
-pub printing_end : (f : Job → RecordRun) (size : ℕ) (j : Job) (printed : ℕ) → Printing f size j printed → j.ended ≡ true → (j ≡ (run_all f size).job) × (printed ≡ length (run_all f size).text)
-printing_end f size j printed p e =
-    let rest = rest_ended f size j e in
-    let c : printed + 0 ≡ length (run_all f size).text = rw rest at p.counts in
-    (sym (ap (λ (t : RecordRun). t.job) rest) ∙ p.ends, omega arith)
 
 module _ (f : Job → RecordRun) (size : ℕ) (moves : (j : Job) → Moves j size (f j)) where
   -- once there are records enough, more of them change nothing
@@ -74,19 +49,3 @@ module _ (f : Job → RecordRun) (size : ℕ) (moves : (j : Job) → Moves j siz
   pub rest_next : (j : Job) → Within size j → j.ended ≡ false → rest_of f size j ≡ followed (f j) (rest_of f size (f j).job)
   unfolding rest_of
   rest_next j w e = from_next j.ended j e e w
-
-  pub printing_next : (j : Job) (printed more : ℕ) → Printing f size j printed → j.ended ≡ false → more ≡ length (f j).text → more ≤ max_text → Printing f size (f j).job (printed + more)
-  printing_next j printed more p e m l =
-      let t = f j in
-      let rest = rest_of f size t.job in
-      let step = rest_next j p.within e in
-      let counted : printed + length (t.text ++ rest.text) ≡ length (run_all f size).text = rw step at p.counts in
-      let left : printed + max_text * suc (size - j.at) ≤ max_text * suc size = rw e at p.few in
-      let less = record_less f size moves j p.within e in
-      record {
-        within = record_within f size moves j p.within;
-        first = record_before f size moves j p.within ∙ p.first;
-        ends = sym (ap (λ (u : RecordRun). u.job) step) ∙ p.ends;
-        counts = let c = counted in let a = length-append t.text rest.text in omega arith;
-        few = omega arith;
-      }

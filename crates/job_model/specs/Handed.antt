@@ -1,16 +1,9 @@
 -- States how far a program came that prints a job record by record and stops at the first write that fails (01, Job): all its text was taken, or a beginning.
-use Rattle.std.specs.Prelude.{ℕ, suc, ◌≤◌, ◌<◌, true, false, List, ◌++◌, ◌≡◌, ltb, length}
-use Rattle.job_lines.specs.Lengths.{max_text}
+use Rattle.std.specs.Prelude.{ℕ, suc, ◌≤◌, ◌<◌, false, List, ◌++◌, ◌≡◌, Result, MatchResult, length}
+use Rattle.job_model.specs.declared.CutShort.{CutShort}
 use Rattle.job_model.specs.declared.Job.{Job}
 use Rattle.job_model.specs.declared.Ran.{Ran}
 use Rattle.job_model.specs.Job.{RecordRun, start_job, run_from, run_all}
-
--- one record's lines, which are never long: a write has failed just where some are left
-pub record Sends (t : RecordRun) (r : Ran) : Type 0 where
-  pub goes : r.job ≡ t.job
-  pub within : r.taken ≤ length t.text
-  pub told : r.failed ≡ ltb r.taken (length t.text)
-  pub short : length t.text ≤ max_text
 
 -- the first so many records: the job after them, and what they print
 abbrev pub first_records : (Job → RecordRun) → ℕ → RecordRun
@@ -28,10 +21,9 @@ pub record Whole (f : Job → RecordRun) (size : ℕ) (j : Job) (taken : ℕ) : 
   pub ends : j ≡ (run_all f size).job
   pub takes : taken ≡ length (run_all f size).text
 
--- what became of a job: whole, where no write failed
-pub record Handed (f : Job → RecordRun) (size : ℕ) (r : Ran) : Type 0 where
-  pub whole : r.failed ≡ false → Whole f size r.job r.taken
-  pub cut : r.failed ≡ true → Cut f r.job r.taken
+-- what became of a job: whole, or a write failed
+abbrev pub Handed : (Job → RecordRun) → ℕ → Result Ran CutShort → Type 0
+Handed f size r = MatchResult r (λ (w : Ran). Whole f size w.job w.taken) (λ (c : CutShort). Cut f c.ran.job c.ran.taken)
 
 -- the first list begins the second
 abbrev pub Begins : List ℕ → List ℕ → Type 0

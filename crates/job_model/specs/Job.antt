@@ -1,64 +1,38 @@
 -- States a whole job (01, Job): records read one after the other, the tank made, its heaters added, its steps run, and the lines that each record prints.
-use Rattle.std.specs.Prelude.{ℕ, zero, suc, ◌+◌, ◌*◌, ◌≤◌, ◌<◌, Bool, true, false, cond, not, ◌&&◌, ◌≡◌, List, [], ◌++◌, eqb, length, set, replicate, Float}
+use Rattle.std.specs.Prelude.{ℕ, zero, suc, ◌+◌, ◌*◌, ◌≤◌, ◌<◌, Bool, true, false, cond, not, ◌&&◌, ◌≡◌, List, [], ◌++◌, eqb, length, set, replicate}
+use Rattle.std.specs.Prelude.{Result, Ok, Err}
 use Rattle.numeric.specs.Double.{zero_f}
+use Rattle.refusals.specs.declared.Refusal.{Refusal}
+use Rattle.refusals.specs.Refusals.{number_of, number_in}
 use Rattle.working_order.specs.Order.{max_heaters}
 use Rattle.tank_model.specs.declared.Heater.{Heater}
 use Rattle.tank_model.specs.declared.TankDesign.{TankDesign}
-use Rattle.tank_model.specs.declared.Setting.{Setting}
 use Rattle.tank_model.specs.declared.Step.{Step}
-use Rattle.tank_model.specs.Fixed.{zero_heater}
 use Rattle.tank_model.specs.Checks.{heaters_check}
 use Rattle.tank_model.specs.Work.{zero_line}
 use Rattle.storage_tank.specs.declared.StorageTank.{StorageTank}
 use Rattle.storage_tank.specs.declared.Report.{Report}
+use Rattle.storage_tank.specs.declared.Stepped.{Stepped}
 use Rattle.storage_tank.specs.Calls.{zero_tank, made, stepped}
-use Rattle.job_records.specs.declared.TankRecord.{TankRecord}
-use Rattle.job_records.specs.declared.StepRecord.{StepRecord}
+use Rattle.job_records.specs.declared.Before.{Before}
 use Rattle.job_records.specs.declared.Record.{Record}
-use Rattle.job_records.specs.declared.Record.TheVariants.{Tank, Heater as HeaterCase, Step as StepCase, Refused}
+use Rattle.job_records.specs.declared.Record.TheVariants.{Tank, Heater as HeaterCase, Step as StepCase}
 use Rattle.job_records.specs.declared.Reading.{Reading}
-use Rattle.job_records.specs.Records.{read_record}
-use Rattle.job_records.specs.Values.{zero_tank_record, number_in}
-use Rattle.job_lines.specs.Put.{written}
+use Rattle.job_records.specs.Records.{design_of, read_record}
+use Rattle.job_records.specs.Values.{zero_tank_record}
+use Rattle.job_lines.specs.Put.{written, PutWhole}
 use Rattle.job_lines.specs.Lengths.{max_text}
 use Rattle.job_lines.specs.Lines.{refusal_line}
 use Rattle.job_model.specs.declared.Job.{Job}
+use Rattle.job_model.specs.declared.PrintedStep.{PrintedStep}
 use Rattle.job_model.specs.declared.Printed.{Printed}
 use Rattle.job_model.specs.StepLines.{step_lines}
 
 -- ---- what records hold
 
-abbrev pub design_of : TankRecord → TankDesign
-design_of t = record {
-  layers = t.layers;
-  volume = t.volume;
-  standby = t.standby;
-  initial = t.initial;
-  rho = t.rho;
-  cp = t.cp;
-  ambient = t.ambient;
-  timestep = t.timestep;
-  heaters = 0;
-  fitted = replicate max_heaters zero_heater;
-}
-
 -- one heater more, in file order
 abbrev pub with_heater : TankDesign → Heater → TankDesign
-with_heater d h = record {
-  layers = d.layers;
-  volume = d.volume;
-  standby = d.standby;
-  initial = d.initial;
-  rho = d.rho;
-  cp = d.cp;
-  ambient = d.ambient;
-  timestep = d.timestep;
-  heaters = d.heaters + 1;
-  fitted = set d.fitted d.heaters h;
-}
-
-abbrev pub step_of : StepRecord → List Float → List Setting → Step
-step_of p volumes settings = record { feed = p.feed; events = p.events; volumes = volumes; entries = p.entries; settings = settings }
+with_heater d h = record d { heaters = d.heaters + 1; fitted = set d.fitted d.heaters h }
 
 -- ---- before the first record
 
@@ -86,16 +60,7 @@ pub record Gives (t : RecordRun) (before after : List ℕ) (r : Printed) : Type 
   pub short : r.length ≤ max_text
 
 abbrev pub ended_job : Job → Job
-ended_job j = record {
-  before = j.before;
-  at = j.at;
-  ended = true;
-  has_tank = j.has_tank;
-  steps = j.steps;
-  design = j.design;
-  tank = j.tank;
-  report = j.report;
-}
+ended_job j = record j { ended = true }
 
 -- the next record's start in the whole input
 abbrev pub offset_of : Job → ℕ
@@ -114,20 +79,18 @@ abbrev pub unless_refused : Job → ℕ → RecordRun → RecordRun
 unless_refused j number t = cond (eqb number 0) t (refused_run j number)
 
 abbrev pub with_tank : Job → ℕ → TankDesign → StorageTank → Job
-with_tank j next d t =
-    record { before = j.before; at = next; ended = j.ended; has_tank = true; steps = j.steps; design = d; tank = t; report = j.report }
+with_tank j next d t = record j { at = next; has_tank = true; design = d; tank = t }
 
 -- the tank made, or the number of make's refusal
 unfoldable pub made_run : Job → ℕ → TankDesign → RecordRun
-made_run j next d = let m = made d in unless_refused j m.number (record { job = with_tank j next d m.tank; text = [] })
+made_run j next d = let m = made d in unless_refused j (number_in m.outcome) (record { job = with_tank j next d m.tank; text = [] })
 
 -- 2 and 5 come at the heater's record, with the newcomer in: 2 before it is fitted, 5 where the tank is made
 unfoldable pub heater_run : Job → ℕ → Heater → RecordRun
 heater_run j next h = unless_refused j (heaters_check (j.design.heaters + 1)) (made_run j next (with_heater j.design h))
 
 abbrev pub after_step : Job → ℕ → StorageTank → Report → Job
-after_step j next t r =
-    record { before = j.before; at = next; ended = j.ended; has_tank = j.has_tank; steps = j.steps + 1; design = j.design; tank = t; report = r }
+after_step j next t r = record j { at = next; steps = j.steps + 1; tank = t; report = r }
 
 -- what is printed of a step, by its index and what it finds: its figures, or its history
 abbrev pub StepText : Type 0
@@ -135,6 +98,11 @@ StepText = ℕ → StorageTank → Report → Step → List ℕ
 
 abbrev pub step_figures : StepText
 step_figures index t r a = step_lines index (stepped t r a)
+
+-- a step that is printed: what it answers, and its lines in the lent buffer
+pub record StepPrinted (text : List ℕ) (s : Stepped) (before after : List ℕ) (r : PrintedStep) : Type 0 where
+  pub steps : r.stepped ≡ s
+  pub prints : PutWhole text before after r.length
 
 -- a step's lines; refused or not, the job goes on and the index counts it
 unfoldable pub step_run : StepText → Job → ℕ → Step → RecordRun
@@ -146,18 +114,22 @@ step_run text j next a =
 unfoldable pub end_run : ℕ → Job → ℕ → RecordRun
 end_run size j number = cond (eqb j.at size && not (eqb (offset_of j) 0)) (record { job = ended_job j; text = [] }) (refused_run j number)
 
-unfoldable pub run_of : StepText → List ℕ → Job → Reading → Record → RecordRun
-run_of text bytes j r (Tank t) = made_run j r.next (design_of t)
-run_of text bytes j r (HeaterCase h) = heater_run j r.next h
-run_of text bytes j r (StepCase p) = step_run text j r.next (step_of p r.volumes r.settings)
-run_of text bytes j r Refused = end_run (length bytes) j (number_in Refused)
+unfoldable pub run_of : StepText → List ℕ → Job → ℕ → Result Record Refusal → RecordRun
+run_of text bytes j next (Ok (Tank t)) = made_run j next (design_of t)
+run_of text bytes j next (Ok (HeaterCase h)) = heater_run j next h
+run_of text bytes j next (Ok (StepCase a)) = step_run text j next a
+run_of text bytes j next (Err e) = end_run (length bytes) j (number_of e)
+
+-- what came before the next record
+abbrev pub came_before : Job → Before
+came_before j = record { tank = j.has_tank; heaters = j.design.heaters; step = not (eqb j.steps 0) }
 
 abbrev pub reading_of : List ℕ → Job → Reading
-reading_of bytes j = read_record bytes j.at j.has_tank j.design.heaters (not (eqb j.steps 0))
+reading_of bytes j = read_record bytes j.at (came_before j)
 
 -- the record that stands next, whatever is printed of a step
 unfoldable pub run_record : StepText → List ℕ → Job → RecordRun
-run_record text bytes j = run_of text bytes j (reading_of bytes j) (reading_of bytes j).content
+run_record text bytes j = let r = reading_of bytes j in run_of text bytes j r.next r.content
 
 abbrev pub record_run : List ℕ → Job → RecordRun
 record_run = run_record step_figures

@@ -1,6 +1,7 @@
 -- States the lines that a step prints (01, Job), from what the call answers: S, L and H where it is accepted, S and L where it is refused.
 use Rattle.std.specs.Prelude.{ℕ, ◌≤◌, false, cond, List, ◌≡◌, eqb}
 use Rattle.std.proofs.Common.{le-leb}
+use Rattle.refusals.specs.Refusals.{number_in}
 use Rattle.working_order.specs.Order.{max_heaters}
 use Rattle.tank_model.specs.Fixed.{placed_heaters, fixed_by}
 use Rattle.tank_model.specs.Order.{working_order}
@@ -25,9 +26,9 @@ shown_order t = working_order (fixed_by (fixed_in t).cylinder (placed_heaters (s
 unfoldable pub step_lines : ℕ → Stepped → List ℕ
 step_lines index s =
     let t = s.tank in
-    cond (eqb s.number 0)
+    cond (eqb (number_in s.outcome) 0)
     (accepted_lines index (totals_of s.report) t.layers t.temps (shown_heaters t) (shown_order t) s.report.lines)
-    (refused_lines index s.number t.layers t.temps)
+    (refused_lines index (number_in s.outcome) t.layers t.temps)
 
 -- the order is the step's own, for a tank whose heaters have places
 pub shown_order_lem : (t : StorageTank) → t.heaters ≤ max_heaters → shown_order t ≡ working_order (fixed_in t)
@@ -35,7 +36,7 @@ unfolding at_most
 shown_order_lem t h = rw (le-leb t.heaters max_heaters h)
 
 -- a refused step prints no heater's line
-pub refused_lines_lem : (index : ℕ) (s : Stepped) → eqb s.number 0 ≡ false
-    → step_lines index s ≡ refused_lines index s.number s.tank.layers s.tank.temps
+pub refused_lines_lem : (index : ℕ) (s : Stepped) → eqb (number_in s.outcome) 0 ≡ false
+    → step_lines index s ≡ refused_lines index (number_in s.outcome) s.tank.layers s.tank.temps
 unfolding step_lines
 refused_lines_lem index s e = rw e

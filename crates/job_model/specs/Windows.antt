@@ -1,38 +1,21 @@
 -- States a job that is read window by window (01, Job), for an input that is too long to be held at once: what each window prints, and all of them together.
-use Rattle.std.specs.Prelude.{ℕ, zero, suc, ◌+◌, ◌≤◌, ◌<◌, Bool, true, false, cond, not, ◌&&◌, List, [], ◌++◌, ◌≡◌, length}
+use Rattle.std.specs.Prelude.{ℕ, zero, suc, ◌+◌, ◌≤◌, ◌<◌, Bool, true, false, cond, not, ◌&&◌, List, [], ◌++◌, ◌≡◌, Result, Ok, Err, MatchResult, length}
 use Rattle.job_records.specs.Windows.{Window, is_ready}
 use Rattle.job_model.specs.declared.Job.{Job}
 use Rattle.job_model.specs.declared.Ran.{Ran}
+use Rattle.job_model.specs.declared.CutShort.{CutShort}
 use Rattle.job_model.specs.Job.{RecordRun, start_job, offset_of, followed}
 
 -- a job that stands in a window, seen from the whole input
 abbrev pub in_whole : Job → Job
-in_whole j = record {
-  before = 0;
-  at = offset_of j;
-  ended = j.ended;
-  has_tank = j.has_tank;
-  steps = j.steps;
-  design = j.design;
-  tank = j.tank;
-  report = j.report;
-}
+in_whole j = record j { before = 0; at = offset_of j }
 
 abbrev pub run_in_whole : RecordRun → RecordRun
 run_in_whole t = record { job = in_whole t.job; text = t.text }
 
 -- the next window begins at the next record
 abbrev pub moved_up : Job → Job
-moved_up j = record {
-  before = offset_of j;
-  at = 0;
-  ended = j.ended;
-  has_tank = j.has_tank;
-  steps = j.steps;
-  design = j.design;
-  tank = j.tank;
-  report = j.report;
-}
+moved_up j = record j { before = offset_of j; at = 0 }
 
 -- records one after the other, as long as the job goes on and the next one can be read, so many at most
 unfoldable pub run_ready : (Job → RecordRun) → (ℕ → Bool) → ℕ → Job → RecordRun
@@ -63,12 +46,15 @@ pub record CutRecords (f : Job → RecordRun) (ready : ℕ → Bool) (records : 
   pub before : length (run_ready f ready records j).text ≤ taken
   pub within : taken < length (run_ready f ready (suc records) j).text
 
+abbrev pub ran_of : Result Ran CutShort → Ran
+ran_of (Ok w) = w
+ran_of (Err c) = c.ran
+
 -- a window's records were run, and their lines taken: all of them; or a write failed
-pub record WindowHanded (f : Job → RecordRun) (ready : ℕ → Bool) (j : Job) (r : Ran) : Type 0 where
+pub record WindowHanded (f : Job → RecordRun) (ready : ℕ → Bool) (j : Job) (r : Result Ran CutShort) : Type 0 where
   pub records : ℕ
-  pub goes : (run_ready f ready records j).job ≡ r.job
-  pub whole : r.failed ≡ false → WholeRecords f ready records j r.taken
-  pub cut : r.failed ≡ true → CutRecords f ready records j r.taken
+  pub goes : (run_ready f ready records j).job ≡ (ran_of r).job
+  pub told : MatchResult r (λ (w : Ran). WholeRecords f ready records j w.taken) (λ (c : CutShort). CutRecords f ready records j c.ran.taken)
 
 -- an input told window by window: where the job stands after some windows, and all that they printed; each window's bytes are those of the input from the
 -- next record on, and the last is so called only if nothing follows it

@@ -1,11 +1,17 @@
 // What a job is, one record after the other: where it stands, what a record does to its tank, and the text that it prints. The crate `job_run` works them.
 #![tactic(auto)]
 
-use storage_tank::{Report, StorageTank};
+ghost use Rattle.std.specs.Prelude.{◌≡◌};
+ghost use Rattle.job_model.specs.Job.{came_before};
+
+use job_records::Before;
+use storage_tank::{Report, Stepped, StorageTank};
 use tank_model::TankDesign;
 
 // Where a job stands: how many bytes of the input came before those that are lent, and the next record's start among these; whether the job has ended, whether
 // a tank came, how many steps came, the tank's record and heaters as given, the tank, and the report of its last accepted step.
+// Kept: `ended` stands beside values that hold in both cases. Before a tank comes, its values are zeros and `has_tank` says so; an Option of them would add a
+// case to each record that the reader has ruled out.
 #[derive(Clone, Copy)]
 pub struct Job {
     pub before: usize,
@@ -18,6 +24,19 @@ pub struct Job {
     pub report: Report,
 }
 
+impl Job {
+    // What came before the next record.
+    pub fn came_before(&self) -> Before
+        ensures { result ≡ came_before self.now }
+    {
+        Before {
+            tank: self.has_tank,
+            heaters: self.design.heaters,
+            step: self.steps != 0,
+        }
+    }
+}
+
 // A job after a record, and the length of the lines that the record printed.
 #[derive(Clone, Copy)]
 pub struct Printed {
@@ -25,10 +44,22 @@ pub struct Printed {
     pub length: usize,
 }
 
-// A job after one record or more, how many bytes of their lines were taken, and whether a write failed: then some are left.
+// What a step answers, and the length of the lines that were printed of it.
+#[derive(Clone, Copy)]
+pub struct PrintedStep {
+    pub stepped: Stepped,
+    pub length: usize,
+}
+
+// A job after its first records, and how many bytes of their lines were taken: all.
 #[derive(Clone, Copy)]
 pub struct Ran {
     pub job: Job,
     pub taken: usize,
-    pub failed: bool,
+}
+
+// A write failed: the job before the record whose lines were cut, and how many bytes of all the lines were taken.
+#[derive(Clone, Copy)]
+pub struct CutShort {
+    pub ran: Ran,
 }

@@ -7,13 +7,14 @@ use mathlib.Core.Logic.{◌⊎◌, inl, inr}
 use mathlib.Core.Path.{◌≡◌, refl, sym, ap, ◌∙◌}
 use lib.ListN.{length}
 use denote.Ref.{Bor}
+use Rattle.job_records.specs.declared.Before.{Before}
 use Rattle.job_records.specs.declared.Reading.{Reading}
 use Rattle.job_reader.specs.declared.reader.JobReader.{JobReader}
 use Rattle.job_records.specs.Records.{refused_at, read_record}
 use Rattle.job_records.specs.Values.{is_refused}
 use Rattle.job_reader.specs.Reader.{new_reader, next_reading, next_reader, NextRead}
 use Rattle.job_records.specs.WellFormed.{WellFormed}
-use Rattle.job_reader.specs.WholeJob.{Before, nothing_before, counted, records_from, records_at, job_records, ReadToEnd, refused, another, placed_at, Same}
+use Rattle.job_reader.specs.WholeJob.{nothing_before, counted, records_from, records_at, job_records, ReadToEnd, refused, another, placed_at, Same}
 use Rattle.job_records.proofs.ReadLaws.{read_either, well_formed_moves}
 use Rattle.job_records.proofs.ValueLaws.{record_read}
 
@@ -22,21 +23,20 @@ use Rattle.job_records.proofs.ValueLaws.{record_read}
 abbrev Enough : ℕ → List ℕ → ℕ → Type 0
 Enough k s at = length s - at + 1 ≤ k
 
-module _ (s : List ℕ) (at : ℕ) (tank : Bool) (heaters : ℕ) (step : Bool) where
-  either_fewer : (k : ℕ) (r : Reading) → WellFormed s at tank heaters step r ⊎ (r ≡ refused_at at) → is_refused r.content ≡ false → Enough (suc k) s at → Enough k s r.next
-  unfolding is_refused
-  either_fewer k r (inl w) f l = let m = well_formed_moves s at tank heaters step r w in let p = m.0 in let q = m.1 in omega arith
+module _ (s : List ℕ) (at : ℕ) (before : Before) where
+  either_fewer : (k : ℕ) (r : Reading) → WellFormed s at before r ⊎ (r ≡ refused_at at) → is_refused r.content ≡ false → Enough (suc k) s at → Enough k s r.next
+  either_fewer k r (inl w) f l = let m = well_formed_moves s at before r w in let p = m.0 in let q = m.1 in omega arith
   either_fewer k r (inr e) f l = absurd (true≢false (rw e at f))
 
-  fewer : (k : ℕ) → is_refused (read_record s at tank heaters step).content ≡ false → Enough (suc k) s at → Enough k s (read_record s at tank heaters step).next
-  fewer k = either_fewer k (read_record s at tank heaters step) (read_either s at tank heaters step)
+  fewer : (k : ℕ) → is_refused (read_record s at before).content ≡ false → Enough (suc k) s at → Enough k s (read_record s at before).next
+  fewer k = either_fewer k (read_record s at before) (read_either s at before)
 
 -- ---- one read: where it leaves the reader
 
 abbrev found : JobReader → Before → Reading
-found x b = next_reading x b.tank b.heaters b.step
+found x b = next_reading x b
 
-module _ (x : JobReader) (b : Before) (r : Reading) (y : JobReader) (n : NextRead x b.tank b.heaters b.step r y) where
+module _ (x : JobReader) (b : Before) (r : Reading) (y : JobReader) (n : NextRead x b r y) where
   tested : (c : Bool) → is_refused r.content ≡ c → is_refused (found x b).content ≡ c
   tested c f = sym (ap (λ (u : Reading). is_refused u.content) n.answers) ∙ f
 
@@ -51,7 +51,7 @@ module _ (x : JobReader) (b : Before) (r : Reading) (y : JobReader) (n : NextRea
 abbrev SameFrom : ℕ → JobReader → Before → List Reading → JobReader → Type 0
 SameFrom k x b rs z = Same x (records_from k x.bytes.now x.at b) rs z
 
-module _ (k : ℕ) (x : JobReader) (b : Before) (r : Reading) (y : JobReader) (n : NextRead x b.tank b.heaters b.step r y) where
+module _ (k : ℕ) (x : JobReader) (b : Before) (r : Reading) (y : JobReader) (n : NextRead x b r y) where
   same_end : is_refused r.content ≡ true → SameFrom (suc k) x b [] y
   unfolding records_from
   same_end f = rw (left_there x b r y n f, tested x b r y n true f) (record { records = refl; end = refl })
@@ -63,7 +63,7 @@ module _ (k : ℕ) (x : JobReader) (b : Before) (r : Reading) (y : JobReader) (n
       rw (tested x b r y n false f) (record { records = rw (n.answers, p.records); end = p.end })
 
   enough_on : is_refused r.content ≡ false → Enough (suc k) x.bytes.now x.at → Enough k y.bytes.now y.at
-  enough_on f l = rw (left_past x b r y n f) (fewer x.bytes.now x.at b.tank b.heaters b.step k (tested x b r y n false f) l)
+  enough_on f l = rw (left_past x b r y n f) (fewer x.bytes.now x.at b k (tested x b r y n false f) l)
 
 same_from : (k : ℕ) (x : JobReader) (b : Before) (rs : List Reading) (z : JobReader) → ReadToEnd x b rs z → Enough k x.bytes.now x.at → SameFrom k x b rs z
 same_from zero x b rs z d l = absurd (omega arith)
@@ -80,9 +80,9 @@ module _ (k : ℕ) (x : JobReader) (b : Before) where
   abbrev after : JobReader
   after = next_reader x (found x b)
 
-  promised : NextRead x b.tank b.heaters b.step (found x b) after
+  promised : NextRead x b (found x b) after
   promised =
-      let e = record_read x.bytes.now x.at b.tank b.heaters b.step (found x b) refl in
+      let e = record_read x.bytes.now x.at b (found x b) refl in
       record { values = e.values; next = e.next; answers = e.answers; leaves = refl }
 
   -- by the test of the record at the reader's place
@@ -95,7 +95,7 @@ module _ (k : ℕ) (x : JobReader) (b : Before) where
 
 read_from : (k : ℕ) (x : JobReader) (b : Before) → Enough k x.bytes.now x.at → ReadFrom k x b
 read_from zero x b l = absurd (omega arith)
-read_from (suc k) x b l = read_step k x b (is_refused (found x b).content) refl (λ f. read_from k (placed_at x (found x b).next) (counted b (found x b).content) (fewer x.bytes.now x.at b.tank b.heaters b.step k f l))
+read_from (suc k) x b l = read_step k x b (is_refused (found x b).content) refl (λ f. read_from k (placed_at x (found x b).next) (counted b (found x b).content) (fewer x.bytes.now x.at b k f l))
 
 -- ---- the theorems
 

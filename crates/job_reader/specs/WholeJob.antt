@@ -1,8 +1,10 @@
 -- States a job read to its end (01, Job; The four calls): its records one after the other, each by what came before it, until one is refused; by
 -- positions, and through a reader.
-use Rattle.std.specs.Prelude.{ℕ, zero, suc, ◌+◌, Bool, true, false, cond, List, [], ◌∷◌, ◌≡◌, length}
+use Rattle.std.specs.Prelude.{ℕ, zero, suc, ◌+◌, true, false, cond, List, [], ◌∷◌, ◌≡◌, length, Result, Ok, Err}
+use Rattle.refusals.specs.declared.Refusal.{Refusal}
+use Rattle.job_records.specs.declared.Before.{Before}
 use Rattle.job_records.specs.declared.Record.{Record}
-use Rattle.job_records.specs.declared.Record.TheVariants.{Tank, Heater as HeaterCase, Step, Refused}
+use Rattle.job_records.specs.declared.Record.TheVariants.{Tank, Heater as HeaterCase, Step as StepCase}
 use Rattle.job_records.specs.declared.Reading.{Reading}
 use Rattle.job_reader.specs.declared.reader.JobReader.{JobReader}
 use Rattle.job_records.specs.Records.{read_record}
@@ -11,20 +13,15 @@ use Rattle.job_reader.specs.Reader.{NextRead}
 
 -- ---- what came before a record: a tank or not, how many heaters, a step or not
 
-pub record Before : Type 0 where
-  pub tank : Bool
-  pub heaters : ℕ
-  pub step : Bool
-
 abbrev pub nothing_before : Before
 nothing_before = record { tank = false; heaters = 0; step = false }
 
 -- with one record more
-unfoldable pub counted : Before → Record → Before
-counted b (Tank t) = record { tank = true; heaters = b.heaters; step = b.step }
-counted b (HeaterCase h) = record { tank = b.tank; heaters = b.heaters + 1; step = b.step }
-counted b (Step p) = record { tank = b.tank; heaters = b.heaters; step = true }
-counted b Refused = b
+unfoldable pub counted : Before → Result Record Refusal → Before
+counted b (Ok (Tank t)) = record { tank = true; heaters = b.heaters; step = b.step }
+counted b (Ok (HeaterCase h)) = record { tank = b.tank; heaters = b.heaters + 1; step = b.step }
+counted b (Ok (StepCase p)) = record { tank = b.tank; heaters = b.heaters; step = true }
+counted b (Err e) = b
 
 -- ---- by positions
 
@@ -41,7 +38,7 @@ preceded r j = record { records = r ∷ j.records; end = j.end }
 unfoldable pub records_from : ℕ → List ℕ → ℕ → Before → JobRecords
 records_from zero s at b = record { records = []; end = at }
 records_from (suc k) s at b =
-    let r = read_record s at b.tank b.heaters b.step in
+    let r = read_record s at b in
     cond (is_refused r.content)
     (record { records = []; end = at })
     (preceded r (records_from k s r.next (counted b r.content)))
@@ -58,10 +55,10 @@ job_records s = records_at s 0 nothing_before
 
 -- reads one after the other, each as `next` promises, until one is refused: the records that they answer, and the reader that the last one leaves
 pub data ReadToEnd : JobReader → Before → List Reading → JobReader → Type 0 where
-  refused : (x : JobReader) (b : Before) (r : Reading) (y : JobReader) → NextRead x b.tank b.heaters b.step r y → is_refused r.content ≡ true
+  refused : (x : JobReader) (b : Before) (r : Reading) (y : JobReader) → NextRead x b r y → is_refused r.content ≡ true
       → ReadToEnd x b [] y
   another : (x : JobReader) (b : Before) (r : Reading) (y : JobReader) (rs : List Reading) (z : JobReader)
-      → NextRead x b.tank b.heaters b.step r y → is_refused r.content ≡ false → ReadToEnd y (counted b r.content) rs z
+      → NextRead x b r y → is_refused r.content ≡ false → ReadToEnd y (counted b r.content) rs z
       → ReadToEnd x b (r ∷ rs) z
 
 -- ---- the two beside each other

@@ -1,41 +1,36 @@
 // The record at a position: 4 bytes of length, 2 of kind, and the body of its kind.
 ghost use Rattle.std.specs.Prelude.{◌≡◌};
-ghost use Rattle.job_records.specs.Values.{number_in};
+ghost use Rattle.job_records.specs.Records.{content_at};
 ghost use Rattle.job_records.specs.ReadValues.{RecordRead};
 
 use job_records::bytes::u32_at;
-use job_records::{Reading, Record};
-use record_bodies::kinds::{record_at, refused};
+use job_records::{Before, Reading, Record};
+use record_bodies::kinds::record_at;
+use refusals::Refusal;
 use working_order::MAX_HEATERS;
 
-// The call. `tank`, `heaters` and `step` say what came before: a tank or not, how many heaters, a step or not.
-pub fn read_record(s: &[u8], at: usize, tank: bool, heaters: usize, step: bool) -> Reading
-    ensures { RecordRead s.now at tank heaters step result }
+// A record that is cut short is refused before its kind is looked at.
+fn content_at(s: &[u8], at: usize, before: Before) -> Result<Record, Refusal>
+    ensures { result ≡ content_at s.now at before }
 {
-    if heaters > MAX_HEATERS {
-        return refused(at);
-    }
-    if s.len() < at {
-        return refused(at);
-    }
-    if s.len() - at < 6 {
-        return refused(at);
+    if before.heaters > MAX_HEATERS || s.len() < at || s.len() - at < 6 {
+        return Err(Refusal::Record);
     }
     let size = u32_at(s, at) as usize;
     if s.len() - at - 4 < size {
-        return refused(at);
+        return Err(Refusal::Record);
     }
-    record_at(s, at, size, tank, heaters, step)
+    record_at(s, at, size, before)
 }
 
-// The number of a record's case: 0 where it is read, 11 where it is refused.
-pub fn number_of(content: Record) -> u8
-    ensures { result ≡ number_in content }
+// The call: the record at a position, by what came before it.
+pub fn read_record(s: &[u8], at: usize, before: Before) -> Reading
+    ensures { RecordRead s.now at before result }
 {
-    match content {
-        Record::Tank(_) => 0,
-        Record::Heater(_) => 0,
-        Record::Step(_) => 0,
-        Record::Refused => 11,
-    }
+    let content = content_at(s, at, before);
+    let next = match content {
+        Ok(_) => at + 4 + u32_at(s, at) as usize,
+        Err(_) => at,
+    };
+    Reading { content, next }
 }

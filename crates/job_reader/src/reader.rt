@@ -3,7 +3,7 @@ ghost use Rattle.std.specs.Prelude.{◌≡◌};
 ghost use Rattle.job_records.specs.ReadValues.{RecordRead};
 ghost use Rattle.job_reader.specs.Reader.{new_reader, bytes_left, NextRead};
 
-use job_records::Reading;
+use job_records::{Before, Reading};
 
 #[derive(Drop)]
 pub struct JobReader<'a> {
@@ -15,7 +15,7 @@ pub struct JobReader<'a> {
 fn bytes_left(s: &[u8], at: usize) -> usize
     ensures { result ≡ bytes_left s.now at }
 {
-    if at <= s.len() { s.len() - at } else { 0 }
+    s.len().saturating_sub(at)
 }
 
 impl<'a> JobReader<'a> {
@@ -27,10 +27,10 @@ impl<'a> JobReader<'a> {
     }
 
     // The next record, by what came before it; the reader moves past it, and stays where it is if the record is refused.
-    pub fn next(&mut self, tank: bool, heaters: usize, step: bool) -> Reading
-        ensures { NextRead self.old tank heaters step result self.new }
+    pub fn next(&mut self, before: Before) -> Reading
+        ensures { NextRead self.old before result self.new }
     {
-        let r = crate::read::read_record(self.bytes, self.at, tank, heaters, step);
+        let r = crate::read::read_record(self.bytes, self.at, before);
         self.at = r.next;
         r
     }
@@ -44,9 +44,9 @@ impl<'a> JobReader<'a> {
 }
 
 // The record at a place, through a reader made there: whoever calls this one needs no reader of their own.
-pub fn read_at(bytes: &[u8], at: usize, tank: bool, heaters: usize, step: bool) -> Reading
-    ensures { RecordRead bytes.now at tank heaters step result }
+pub fn read_at(bytes: &[u8], at: usize, before: Before) -> Reading
+    ensures { RecordRead bytes.now at before result }
 {
     let mut reader = JobReader { bytes, at };
-    reader.next(tank, heaters, step)
+    reader.next(before)
 }

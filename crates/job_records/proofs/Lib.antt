@@ -1,5 +1,4 @@
 -- The laws of a job's records, and the lemmas that they share.
-pub mod Patterns
 pub mod Filling
 pub mod ReadLaws
 pub mod ReaderLaws

@@ -1,16 +1,18 @@
 -- States for each case of the reader's answer its number, its kind and every value (01, The four calls; refusal 11). What a case does not use is zero.
-use Rattle.std.specs.Prelude.{ℕ, Bool, true, false, List, map, replicate, Float}
+use Rattle.std.specs.Prelude.{ℕ, Bool, true, false, cond, eqb, List, map, replicate, Float, Result, Ok, Err}
 use Rattle.numeric.specs.Double.{zero_f}
+use Rattle.refusals.specs.declared.Refusal.{Refusal}
+use Rattle.refusals.specs.Refusals.{number_of, refusal_with}
 use Rattle.set_points.specs.declared.SetPoints.{SetPoints}
 use Rattle.set_points.specs.declared.SetPoints.TheVariants.{Neither, Lower, Upper, Both}
 use Rattle.working_order.specs.Order.{max_heaters}
 use Rattle.tank_model.specs.declared.Heater.{Heater}
 use Rattle.tank_model.specs.declared.Setting.{Setting}
+use Rattle.tank_model.specs.declared.Step.{Step}
 use Rattle.tank_model.specs.Fixed.{zero_heater}
 use Rattle.job_records.specs.declared.TankRecord.{TankRecord}
-use Rattle.job_records.specs.declared.StepRecord.{StepRecord}
 use Rattle.job_records.specs.declared.Record.{Record}
-use Rattle.job_records.specs.declared.Record.TheVariants.{Tank, Heater as HeaterCase, Step, Refused}
+use Rattle.job_records.specs.declared.Record.TheVariants.{Tank, Heater as HeaterCase, Step as StepCase}
 use Rattle.job_records.specs.declared.Reading.{Reading}
 use Rattle.job_records.specs.Fields.{no_volumes, no_settings}
 
@@ -40,11 +42,15 @@ entries_of settings = map (λ (x : Setting). entry_of x.points) settings
 
 -- ---- a record
 
-unfoldable pub is_refused : Record → Bool
-is_refused (Tank t) = false
-is_refused (HeaterCase h) = false
-is_refused (Step p) = false
-is_refused Refused = true
+abbrev pub is_refused : Result Record Refusal → Bool
+is_refused (Ok x) = false
+is_refused (Err e) = true
+
+-- a step's feed temperature, and how many draw events and set-point entries it holds
+pub record StepNumbers : Type 0 where
+  pub feed : Float
+  pub events : ℕ
+  pub entries : ℕ
 
 -- the number is 0 or 11, the kind 1, 2 or 3, and 0 where refused
 pub record Values : Type 0 where
@@ -52,7 +58,7 @@ pub record Values : Type 0 where
   pub kind : ℕ
   pub tank : TankRecord
   pub heater : Heater
-  pub step : StepRecord
+  pub step : StepNumbers
   pub volumes : List Float
   pub settings : List Setting
   pub entries : List Entry
@@ -69,55 +75,64 @@ zero_tank_record = record {
   timestep = zero_f;
 }
 
-abbrev pub zero_step_record : StepRecord
-zero_step_record = record { feed = zero_f; events = 0; entries = 0 }
+abbrev pub zero_step : StepNumbers
+zero_step = record { feed = zero_f; events = 0; entries = 0 }
 
--- a step's volumes and settings stand beside its record
-unfoldable pub values_of : Record → List Float → List Setting → Values
-values_of (Tank t) volumes settings = record {
+abbrev pub step_numbers : Step → StepNumbers
+step_numbers p = record { feed = p.feed; events = p.events; entries = p.entries }
+
+unfoldable pub values_of : Result Record Refusal → Values
+values_of (Ok (Tank t)) = record {
   number = 0;
   kind = 1;
   tank = t;
   heater = zero_heater;
-  step = zero_step_record;
+  step = zero_step;
   volumes = no_volumes;
   settings = no_settings;
   entries = no_entries;
 }
-values_of (HeaterCase h) volumes settings = record {
+values_of (Ok (HeaterCase h)) = record {
   number = 0;
   kind = 2;
   tank = zero_tank_record;
   heater = h;
-  step = zero_step_record;
+  step = zero_step;
   volumes = no_volumes;
   settings = no_settings;
   entries = no_entries;
 }
-values_of (Step p) volumes settings = record {
+values_of (Ok (StepCase p)) = record {
   number = 0;
   kind = 3;
   tank = zero_tank_record;
   heater = zero_heater;
-  step = p;
-  volumes = volumes;
-  settings = settings;
-  entries = entries_of settings;
+  step = step_numbers p;
+  volumes = p.volumes;
+  settings = p.settings;
+  entries = entries_of p.settings;
 }
-values_of Refused volumes settings = record {
-  number = 11;
+values_of (Err e) = record {
+  number = number_of e;
   kind = 0;
   tank = zero_tank_record;
   heater = zero_heater;
-  step = zero_step_record;
+  step = zero_step;
   volumes = no_volumes;
   settings = no_settings;
   entries = no_entries;
 }
 
 abbrev pub values_in : Reading → Values
-values_in r = values_of r.content r.volumes r.settings
+values_in r = values_of r.content
 
--- the number of a record's case alone
-abbrev pub number_in : Record → ℕ
-number_in x = (values_of x no_volumes no_settings).number
+-- the answer with these values
+abbrev pub content_with : Values → Result Record Refusal
+content_with v =
+    cond (eqb v.kind 1)
+    (Ok (Tank v.tank))
+    (cond (eqb v.kind 2)
+    (Ok (HeaterCase v.heater))
+    (cond (eqb v.kind 3)
+    (Ok (StepCase (record { feed = v.step.feed; events = v.step.events; volumes = v.volumes; entries = v.step.entries; settings = v.settings })))
+    (Err (refusal_with v.number))))

@@ -23,4 +23,4 @@ is_ready w last at = last || leb (at + max_record) (length w)
 
 -- the same reading at another position
 abbrev pub moved_to : ℕ → ℕ → Reading → Reading
-moved_to at at' r = record { content = r.content; volumes = r.volumes; settings = r.settings; next = at' + (r.next - at) }
+moved_to at at' r = record { content = r.content; next = at' + (r.next - at) }

@@ -3,12 +3,15 @@
 
 pub mod bytes;
 
-use draw_events::event::MAX_EVENTS;
-use tank_model::{Heater, Setting};
+ghost use Rattle.std.specs.Prelude.{◌≡◌};
+ghost use Rattle.job_records.specs.Records.{design_of};
+
+use refusals::Refusal;
+use tank_model::{Heater, Step, TankDesign};
 use working_order::MAX_HEATERS;
 
 // A tank's record: the numbers of its design, heaters apart.
-#[derive(Clone, Copy)]
+#[derive(Clone, Copy, Default)]
 pub struct TankRecord {
     pub layers: usize,
     pub volume: f64,
@@ -20,28 +23,45 @@ pub struct TankRecord {
     pub timestep: f64,
 }
 
-// A step's record: its feed temperature, and how many draw events and set-point entries it holds.
-#[derive(Clone, Copy)]
-pub struct StepRecord {
-    pub feed: f64,
-    pub events: usize,
-    pub entries: usize,
+// With no heaters yet.
+impl From<TankRecord> for TankDesign {
+    ghost from_gives = { λ t d. d ≡ design_of t };
+
+    fn from(t: TankRecord) -> TankDesign {
+        TankDesign {
+            layers: t.layers,
+            volume: t.volume,
+            standby: t.standby,
+            initial: t.initial,
+            rho: t.rho,
+            cp: t.cp,
+            ambient: t.ambient,
+            timestep: t.timestep,
+            heaters: 0,
+            fitted: [Heater::default(); MAX_HEATERS],
+        }
+    }
 }
 
-// A record by its kind; refused is 01's number 11.
+// A record by its kind.
 #[derive(Clone, Copy)]
 pub enum Record {
     Tank(TankRecord),
     Heater(Heater),
-    Step(StepRecord),
-    Refused,
+    Step(Step),
 }
 
-// What reading answers: the record, a step's volumes and settings, and the position after it. What a case does not use is zero.
+// What came before a record of a job: a tank or not, how many heaters, a step or not.
+#[derive(Clone, Copy, PartialEq, Eq, Default)]
+pub struct Before {
+    pub tank: bool,
+    pub heaters: usize,
+    pub step: bool,
+}
+
+// What reading answers: the record or its refusal, and the position after it, which is the record's own where it is refused.
 #[derive(Clone, Copy)]
 pub struct Reading {
-    pub content: Record,
-    pub volumes: [f64; MAX_EVENTS],
-    pub settings: [Setting; MAX_HEATERS],
+    pub content: Result<Record, Refusal>,
     pub next: usize,
 }

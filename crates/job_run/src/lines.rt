@@ -1,32 +1,60 @@
 // The lines of a step.
 ghost use Rattle.job_lines.specs.Put.{PutWhole};
 ghost use Rattle.job_model.specs.StepLines.{step_lines};
+ghost use Rattle.job_model.specs.Job.{step_figures};
 
+use crate::StepPrinter;
 use job_lines::Totals;
-use job_lines::lines::{accepted_lines, at_most, refused_lines};
-use storage_tank::Stepped;
+use job_lines::lines::{accepted_lines, refused_lines};
+use job_model::PrintedStep;
+use storage_tank::{Report, Stepped, StorageTank};
+use tank_model::{Step, order_of_work};
 use working_order::MAX_HEATERS;
 
-// A step's lines, by its number. Its heaters are printed in working order.
+// A step's figures.
+pub struct Figures;
+
+impl StepPrinter for Figures {
+    ghost text = { step_figures };
+
+    fn print_step(
+        buf: &mut [u8],
+        index: usize,
+        tank: StorageTank,
+        report: Report,
+        step: Step,
+    ) -> PrintedStep {
+        let stepped = tank.demand_hot_water(report, step);
+        let length = step_lines(buf, index, stepped);
+        PrintedStep { stepped, length }
+    }
+}
+
+// A step's lines, by its outcome. Its heaters are printed in working order.
 pub fn step_lines(buf: &mut [u8], index: usize, s: Stepped) -> usize
     ensures { PutWhole (step_lines index s) buf.old buf.new result }
 {
     let t = s.tank;
-    let temps = t.temps;
-    if s.number != 0 {
-        return refused_lines(buf, index, s.number, t.layers, &temps);
+    if let Err(refusal) = s.outcome {
+        return refused_lines(buf, index, refusal, t.layers, &t.temps);
     }
     let report = s.report;
-    let lines = report.lines;
-    let fitted = t.fitted;
-    let n = at_most(t.heaters, MAX_HEATERS);
-    let heaters = tank_arrays::arrays::heaters_of(fitted);
-    let order = working_order::working_order(n, &heaters);
+    let heaters = t.heaters.min(MAX_HEATERS);
+    let order = order_of_work(heaters, &t.fitted);
     let totals = Totals {
         energy: report.energy,
         used: report.used,
         average: report.average,
         recoverable: report.recoverable,
     };
-    accepted_lines(buf, index, totals, t.layers, &temps, n, order, lines)
+    accepted_lines(
+        buf,
+        index,
+        totals,
+        t.layers,
+        &t.temps,
+        heaters,
+        order,
+        report.lines,
+    )
 }

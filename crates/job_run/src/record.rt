@@ -1,29 +1,36 @@
 // One record of a job: the tank made, a heater added, a step run, or the end.
 ghost use Rattle.std.specs.Prelude.{◌≡◌};
-ghost use Rattle.job_model.specs.Job.{Countable, Gives, refused_run, made_run, heater_run, step_figures, step_run, end_run, record_run, ended_job};
+ghost use Rattle.refusals.specs.Refusals.{number_of};
+ghost use Rattle.job_model.specs.Job.{Countable, Gives, refused_run, made_run, heater_run, step_run, end_run, run_record, ended_job};
 
+use crate::StepPrinter;
+use crate::start::with_heater;
 use job_model::{Job, Printed};
 use job_records::Record;
+use refusals::Refusal;
 use storage_tank::StorageTank;
 use tank_model::{Heater, Step, TankDesign};
+use tank_refusals::checks::heaters_check;
+
+// Kept: that a job is countable is asked of each call and not kept by its type, since a record may move it past what can be counted in an input that long.
 
 // The job ends, and nothing is printed.
 fn end_job(j: Job) -> Job
     ensures { result ≡ ended_job j }
 {
-    let mut r = j;
-    r.ended = true;
-    r
+    Job { ended: true, ..j }
 }
 
 // E, and the job ends.
-fn refuse(buf: &mut [u8], j: Job, number: u8) -> Printed
+fn refuse(buf: &mut [u8], j: Job, refusal: Refusal) -> Printed
     requires { Countable j }
-    ensures { Gives (refused_run j number) buf.old buf.new result }
+    ensures { Gives (refused_run j (number_of refusal)) buf.old buf.new result }
 {
-    let length = job_lines::lines::refusal_line(buf, number, j.before + j.at);
-    let job = end_job(j);
-    Printed { job, length }
+    let length = job_lines::lines::refusal_line(buf, refusal, j.before + j.at);
+    Printed {
+        job: end_job(j),
+        length,
+    }
 }
 
 // A tank with these heaters, or the refusal of making it.
@@ -32,16 +39,19 @@ pub fn make_tank(buf: &mut [u8], j: Job, next: usize, design: TankDesign) -> Pri
     ensures { Gives (made_run j next design) buf.old buf.new result }
 {
     let m = StorageTank::new(design);
-    if m.number != 0 {
-        return refuse(buf, j, m.number);
+    match m.outcome {
+        Ok(()) => {
+            let job = Job {
+                at: next,
+                has_tank: true,
+                design,
+                tank: m.tank,
+                ..j
+            };
+            Printed { job, length: 0 }
+        }
+        Err(refusal) => refuse(buf, j, refusal),
     }
-    let tank = m.tank;
-    let mut job = j;
-    job.at = next;
-    job.has_tank = true;
-    job.design = design;
-    job.tank = tank;
-    Printed { job, length: 0 }
 }
 
 // A heater more; a ninth is 2.
@@ -49,69 +59,55 @@ pub fn add_heater(buf: &mut [u8], j: Job, next: usize, h: Heater) -> Printed
     requires { Countable j }
     ensures { Gives (heater_run j next h) buf.old buf.new result }
 {
-    let d = j.design;
-    let number = tank_refusals::checks::heaters_check(d.heaters, 1);
-    if number != 0 {
-        return refuse(buf, j, number);
+    match heaters_check(j.design.heaters, 1) {
+        Ok(()) => make_tank(buf, j, next, with_heater(j.design, h)),
+        Err(refusal) => refuse(buf, j, refusal),
     }
-    let design = crate::start::with_heater(d, h);
-    make_tank(buf, j, next, design)
 }
 
-// A step, refused or not: its lines, and the job goes on.
-fn run_step(buf: &mut [u8], j: Job, next: usize, a: Step) -> Printed
+// A step, refused or not: what is printed of it, and the job goes on.
+fn run_step<P: StepPrinter>(buf: &mut [u8], j: Job, next: usize, a: Step) -> Printed
     requires { Countable j }
-    ensures { Gives (step_run step_figures j next a) buf.old buf.new result }
+    ensures { Gives (step_run P.text j next a) buf.old buf.new result }
 {
-    let before = j.tank;
-    let last = j.report;
-    let s = before.demand_hot_water(last, a);
-    let length = crate::lines::step_lines(buf, j.steps, s);
-    let tank = s.tank;
-    let report = s.report;
-    let mut job = j;
-    job.at = next;
-    job.steps = j.steps + 1;
-    job.tank = tank;
-    job.report = report;
-    Printed { job, length }
+    let p = P::print_step(buf, j.steps, j.tank, j.report, a);
+    let job = Job {
+        at: next,
+        steps: j.steps + 1,
+        tank: p.stepped.tank,
+        report: p.stepped.report,
+        ..j
+    };
+    Printed {
+        job,
+        length: p.length,
+    }
 }
 
-// No record: the input's end, or a refusal with the number of the reader's answer.
-pub fn end_or_refuse(buf: &mut [u8], size: usize, j: Job, number: u8) -> Printed
+// No record: the input's end, or the reader's refusal.
+pub fn end_or_refuse(buf: &mut [u8], size: usize, j: Job, refusal: Refusal) -> Printed
     requires { Countable j }
-    ensures { Gives (end_run size j number) buf.old buf.new result }
+    ensures { Gives (end_run size j (number_of refusal)) buf.old buf.new result }
 {
-    if j.at != size {
-        return refuse(buf, j, number);
+    if j.at != size || j.before + j.at == 0 {
+        return refuse(buf, j, refusal);
     }
-    if j.before + j.at == 0 {
-        return refuse(buf, j, number);
+    Printed {
+        job: end_job(j),
+        length: 0,
     }
-    let job = end_job(j);
-    Printed { job, length: 0 }
 }
 
 // The next record of a job: its lines into the lent buffer, and the job after it.
-pub fn next_record(buf: &mut [u8], bytes: &[u8], j: Job) -> Printed
+pub fn next_record<P: StepPrinter>(buf: &mut [u8], bytes: &[u8], j: Job) -> Printed
     requires { Countable j }
-    ensures { Gives (record_run bytes.now j) buf.old buf.new result }
+    ensures { Gives (run_record P.text bytes.now j) buf.old buf.new result }
 {
-    let d = j.design;
-    let r = job_reader::reader::read_at(bytes, j.at, j.has_tank, d.heaters, j.steps != 0);
-    let next = r.next;
-    let content = r.content;
-    match content {
-        Record::Tank(t) => make_tank(buf, j, next, crate::start::design_of(t)),
-        Record::Heater(h) => add_heater(buf, j, next, h),
-        Record::Step(p) => {
-            let volumes = r.volumes;
-            let settings = r.settings;
-            run_step(buf, j, next, crate::start::step_of(p, volumes, settings))
-        }
-        Record::Refused => {
-            let number = job_reader::read::number_of(content);
-            end_or_refuse(buf, bytes.len(), j, number)
-        }
+    let r = job_reader::reader::read_at(bytes, j.at, j.came_before());
+    match r.content {
+        Ok(Record::Tank(t)) => make_tank(buf, j, r.next, TankDesign::from(t)),
+        Ok(Record::Heater(h)) => add_heater(buf, j, r.next, h),
+        Ok(Record::Step(a)) => run_step::<P>(buf, j, r.next, a),
+        Err(refusal) => end_or_refuse(buf, bytes.len(), j, refusal),
     }
 }

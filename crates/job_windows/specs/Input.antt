@@ -1,10 +1,11 @@
 -- States what becomes of a window of standard input (01, Job), whatever was read into it: the bytes that it held stay its first, its records are run, and the
 -- rest of it begins the next window.
-use Rattle.std.specs.Prelude.{ℕ, ◌+◌, ◌*◌, ◌-◌, ◌≤◌, true, false, List, ◌≡◌, ltb, length, take, drop}
+use Rattle.std.specs.Prelude.{ℕ, ◌+◌, ◌*◌, ◌-◌, ◌≤◌, true, List, ◌≡◌, Result, IfOk, ltb, length, take, drop}
 use Rattle.job_records.specs.Windows.{Window, is_ready}
 use Rattle.job_model.specs.declared.Job.{Job}
 use Rattle.job_model.specs.Job.{RecordRun}
 use Rattle.job_model.specs.Windows.{moved_up, window_records, Stops}
+use Rattle.streams.specs.declared.Broken.{Broken}
 use Rattle.input_window.specs.declared.Next.{Next}
 use Rattle.input_window.specs.Window.{max_window}
 
@@ -28,9 +29,9 @@ pub record Taken (f : List ℕ → Job → RecordRun) (held : ℕ) (before after
   pub holds : r.held ≡ length w - (window_records f w (ltb (length w) max_window) records j).job.at
   pub counted : 16 * r.job.steps ≤ r.job.before
 
-pub record WindowTaken (f : List ℕ → Job → RecordRun) (held : ℕ) (before after : List ℕ) (j : Job) (r : Next) : Type 0 where
+pub record WindowTaken (f : List ℕ → Job → RecordRun) (held : ℕ) (before after : List ℕ) (j : Job) (r : Result Next Broken) : Type 0 where
   pub size : length after ≡ length before
-  pub taken : r.failed ≡ false → Taken f held before after j r
+  pub taken : IfOk r (λ (n : Next). Taken f held before after j n)
 
 -- what the system is taken to do: after the bytes held come the next ones of the input, and a window is left short only where the input ends
 pub record Fed (s : List ℕ) (k held : ℕ) (w : List ℕ) : Type 0 where

@@ -1,3 +1,3 @@
--- The definitions of `job_windows`: the two kinds of lines, and what the loops over windows keep.
-pub mod Kinds
+-- The definitions of `job_windows`: what becomes of a record's lines, and what the loops over windows keep.
+pub mod Lines
 pub mod Input

@@ -1,13 +1,16 @@
 // Standard input from its beginning to its end, window by window.
 ghost use Rattle.std.specs.Prelude.{◌≡◌, ◌+◌, ◌≤◌, length, take};
-ghost use Rattle.job_windows.specs.Kinds.{lines_of};
+ghost use Rattle.job_model.specs.Job.{run_record};
 ghost use Rattle.job_windows.specs.Input.{Open, WindowTaken};
+ghost use Rattle.streams.specs.Whole.{moved_in};
 
+use crate::window::run_window;
 use input_window::Next;
-use input_window::window::MAX_WINDOW;
+use input_window::window::{MAX_WINDOW, next_window};
 use job_model::Job;
+use job_run::StepPrinter;
 use std::time::Clock;
-use streams::Filled;
+use streams::Broken;
 
 // No input has so many windows: each but the last moves on by half a window at least.
 const MAX_WINDOWS: usize = 4294967296;
@@ -18,73 +21,54 @@ fn fill_after(
     program: &[u8],
     buf: &mut [u8],
     held: usize,
-) -> Filled
+) -> Result<usize, Broken>
     requires { held ≤ length buf.old }
     ensures keeps { take held buf.new ≡ take held buf.old }
     ensures size { length buf.new ≡ length buf.old }
-    ensures fits { held + result.count ≤ length buf.old }
+    ensures fits { held + moved_in result ≤ length buf.old }
 {
     streams::fill(rt, program, &mut buf[held..])
 }
 
-// The window that begins with the bytes held: filled, its records run, and what is left of it moved down.
-fn take_window(
+// The window that begins with the bytes held: filled, its records run, and what is left of it moved down; or a read or a write failed.
+fn take_window<P: StepPrinter>(
     rt: &(impl Input + Print + Eprint + Clock),
     program: &[u8],
     buf: &mut [u8],
     held: usize,
     job: Job,
-    history: bool,
-) -> Next
+) -> Result<Next, Broken>
     requires { Open buf.old held job }
-    ensures { WindowTaken (lines_of history) held buf.old buf.new job result }
+    ensures { WindowTaken (run_record P.text) held buf.old buf.new job result }
 {
-    let more = fill_after(rt, program, buf, held);
-    if more.failed {
-        return Next {
-            job,
-            held,
-            failed: true,
-        };
-    }
-    let end = held + more.count;
+    let end = held + fill_after(rt, program, buf, held)?;
     let last = end < buf.len();
-    let r = crate::window::run_window(rt, program, &buf[..end], last, job, history);
-    let next = r.job;
-    if r.failed {
-        return Next {
-            job: next,
-            held,
-            failed: true,
-        };
+    match run_window::<P>(rt, program, &buf[..end], last, job) {
+        Ok(ran) => Ok(next_window(buf, ran.job, end)),
+        Err(cut) => Err(Broken {
+            moved: cut.ran.taken,
+        }),
     }
-    input_window::window::next_window(buf, next, end)
 }
 
-// A job of any length from standard input: its lines, or those of its history, to standard output. A read or a write that fails ends it, and standard error
+// A job of any length from standard input: its lines, by what P prints of a step, to standard output. A read or a write that fails ends it, and standard error
 // says why. `space` is for the window, whatever is in it: an argument's length is known to the proof without being counted out.
-pub fn run_input(
+pub fn run_input<P: StepPrinter>(
     rt: &(impl Input + Print + Eprint + Clock),
     program: &[u8],
-    history: bool,
-    space: [u8; MAX_WINDOW],
+    mut space: [u8; MAX_WINDOW],
 ) {
-    let mut buf = space;
     let mut job = job_run::start::start();
     let mut held = 0;
-    let mut windows = MAX_WINDOWS;
-    while 0 < windows {
-        windows -= 1;
-        let n = take_window(rt, program, &mut buf, held, job, history);
-        if n.failed {
+    for _window in 0..MAX_WINDOWS {
+        let Ok(next) = take_window::<P>(rt, program, &mut space, held, job) else {
+            return;
+        };
+        if next.job.ended {
             return;
         }
-        let next = n.job;
-        if next.ended {
-            return;
-        }
-        job = next;
-        held = n.held;
+        job = next.job;
+        held = next.held;
     }
     let name = program.escape_ascii();
     let _ = eprintln!(rt; "{name}: standard input: too long");

@@ -1,40 +1,34 @@
-// A record's lines handed on: its figures, as `job` prints them, or its history.
-ghost use Rattle.job_model.specs.Job.{Countable, Gives};
-ghost use Rattle.job_model.specs.Handed.{Sends};
-ghost use Rattle.job_windows.specs.Kinds.{lines_of};
+// A record's lines handed on.
+ghost use Rattle.job_model.specs.Job.{Countable, run_record};
+ghost use Rattle.job_windows.specs.Lines.{Sends};
 
-use job_model::{Job, Printed, Ran};
+use job_model::Job;
+use job_run::StepPrinter;
+use job_run::record::next_record;
 use std::time::Clock;
+use streams::Broken;
 
-fn next_lines(buf: &mut [u8], bytes: &[u8], job: Job, history: bool) -> Printed
-    requires { Countable job }
-    ensures { Gives (lines_of history bytes.now job) buf.old buf.new result }
-{
-    if history {
-        return job_history::record::next_history(buf, bytes, job);
-    }
-    job_run::record::next_record(buf, bytes, job)
+// The job after a record, and what became of its lines: all of their bytes were taken, or those before a write that failed.
+#[derive(Clone, Copy)]
+pub struct Told {
+    pub job: Job,
+    pub sent: Result<usize, Broken>,
 }
 
 // The next record: its lines handed on, and the job after it.
-pub fn print_lines(
+pub fn print_lines<P: StepPrinter>(
     rt: &(impl Print + Eprint + Clock),
     program: &[u8],
     bytes: &[u8],
     job: Job,
-    history: bool,
-) -> Ran
+) -> Told
     requires { Countable job }
-    ensures { Sends (lines_of history bytes.now job) result }
+    ensures { Sends (run_record P.text bytes.now job) result }
 {
     let mut lines = [0; 4096];
-    let p = next_lines(&mut lines, bytes, job, history);
-    let n = p.length;
-    let s = streams::send(rt, program, &lines[..n]);
-    let next = p.job;
-    Ran {
-        job: next,
-        taken: s.count,
-        failed: s.failed,
+    let printed = next_record::<P>(&mut lines, bytes, job);
+    Told {
+        job: printed.job,
+        sent: streams::send(rt, program, &lines[..printed.length]),
     }
 }

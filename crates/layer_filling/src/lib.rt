@@ -18,79 +18,81 @@ pub struct LayerFilling {
     pub coldest: f64,
 }
 
-// A layer that takes `full` still holds `held` at temperature t; t counts as met even when it is empty.
-pub fn start_filling(full: f64, held: f64, t: f64) -> LayerFilling
-    ensures { result ≡ start_filling full held t }
-{
-    LayerFilling {
-        lack: full - held,
-        volume: held,
-        weighted: held * t,
-        coldest: t,
+impl LayerFilling {
+    // A layer that takes `full` still holds `held` at temperature t; t counts as met even when it is empty.
+    pub fn new(full: f64, held: f64, t: f64) -> LayerFilling
+        ensures { result ≡ start_filling full held t }
+    {
+        LayerFilling {
+            lack: full - held,
+            volume: held,
+            weighted: held * t,
+            coldest: t,
+        }
     }
-}
 
-// The layer j gives what is lacking, or all that it holds.
-pub fn take_share(
-    j: usize,
-    f: LayerFilling,
-    before: &[f64; MAX_LAYERS],
-    held: &mut [f64; MAX_LAYERS],
-) -> LayerFilling
-    requires { j < max_layers }
-    ensures { filling_with held.new result ≡ take_share before.now j (filling_with held.old f) }
-{
-    let h = held[j];
-    let t = before[j];
-    let v = numeric::compare::min_of_2(f.lack, h);
-    held[j] = h - v;
-    LayerFilling {
-        lack: f.lack - v,
-        volume: f.volume + v,
-        weighted: f.weighted + v * t,
-        coldest: numeric::compare::min_of_2(t, f.coldest),
+    // The layer j gives what is lacking, or all that it holds.
+    #[tactic(auto, unfolding(crate::specs::Filling::take_share))]
+    pub fn take_share(
+        self,
+        j: usize,
+        before: &[f64; MAX_LAYERS],
+        held: &mut [f64; MAX_LAYERS],
+    ) -> LayerFilling
+        requires { j < max_layers }
+        ensures { filling_with held.new result ≡ take_share before.now j (filling_with held.old self) }
+    {
+        let h = held[j];
+        let t = before[j];
+        let v = numeric::compare::min_of_2(self.lack, h);
+        held[j] = h - v;
+        LayerFilling {
+            lack: self.lack - v,
+            volume: self.volume + v,
+            weighted: self.weighted + v * t,
+            coldest: numeric::compare::min_of_2(t, self.coldest),
+        }
     }
-}
 
-// Only a layer that holds more than zero is met.
-pub fn take_from(
-    j: usize,
-    f: LayerFilling,
-    before: &[f64; MAX_LAYERS],
-    held: &mut [f64; MAX_LAYERS],
-) -> LayerFilling
-    requires { j < max_layers }
-    ensures { filling_with held.new result ≡ take_from before.now j (filling_with held.old f) }
-{
-    if held[j] > 0.0 {
-        return take_share(j, f, before, held);
+    // Only a layer that holds more than zero is met.
+    #[tactic(auto, unfolding(crate::specs::Filling::take_from))]
+    pub fn take_from(
+        self,
+        j: usize,
+        before: &[f64; MAX_LAYERS],
+        held: &mut [f64; MAX_LAYERS],
+    ) -> LayerFilling
+        requires { j < max_layers }
+        ensures { filling_with held.new result ≡ take_from before.now j (filling_with held.old self) }
+    {
+        if held[j] > 0.0 {
+            return self.take_share(j, before, held);
+        }
+        self
     }
-    f
-}
 
-// A lack above zero enters from the feed, at cold(lack).
-pub fn take_from_feed(feed: Feed, f: LayerFilling) -> LayerFilling
-    ensures { (held : List Float) → filling_with held result ≡ from_feed feed (filling_with held f) }
-{
-    let v = f.lack;
-    if v > 0.0 {
-        return LayerFilling {
-            lack: v,
-            volume: f.volume + v,
-            weighted: f.weighted + v * draw_off::cold::cold_temp(feed, v),
-            coldest: f.coldest,
-        };
+    // A lack above zero enters from the feed, at cold(lack).
+    #[tactic(auto, unfolding(crate::specs::Filling::from_feed))]
+    pub fn take_from_feed(self, feed: Feed) -> LayerFilling
+        ensures { (held : List Float) → filling_with held result ≡ from_feed feed (filling_with held self) }
+    {
+        let v = self.lack;
+        if v > 0.0 {
+            return LayerFilling {
+                lack: v,
+                volume: self.volume + v,
+                weighted: self.weighted + v * draw_off::cold::cold_temp(feed, v),
+                coldest: self.coldest,
+            };
+        }
+        self
     }
-    f
-}
 
-// The feed's water is warmer than the coldest water met.
-pub fn does_enter_warmer(feed: Feed, f: LayerFilling) -> bool
-    ensures { (held : List Float) → result ≡ enters_warmer feed (filling_with held f) }
-{
-    if f.lack > 0.0 {
-        let cool = draw_off::cold::cold_temp(feed, f.lack);
-        return cool > f.coldest;
+    // The feed's water is warmer than the coldest water met.
+    #[tactic(auto, unfolding(crate::specs::Filling::enters_warmer))]
+    pub fn does_enter_warmer(self, feed: Feed) -> bool
+        ensures { (held : List Float) → result ≡ enters_warmer feed (filling_with held self) }
+    {
+        self.lack > 0.0 && draw_off::cold::cold_temp(feed, self.lack) > self.coldest
     }
-    false
 }

@@ -1,6 +1,6 @@
 -- Proves that what the code keeps of a round still follows it after a layer of the volume of each joins (01, Mix): its heat is gone on with from what was kept, where one
 -- product says that each layer's is what it was, or is a sum of that product.
-use mathlib.Core.Path.{◌≡◌, ap}
+use mathlib.Core.Path.{◌≡◌, sym, ap}
 use mathlib.Core.Bool.{true}
 use mathlib.Core.List.{List}
 use Prim.Native.Nat.{ℕ, ◌+◌, ◌≤◌, ◌<◌}
@@ -17,11 +17,18 @@ use Rattle.group_sums.specs.Sums.{heat_sum, EvenSum, OneMore}
 use Rattle.layer_joining.specs.Running.{joined_group, AsDefined, EntersEven, StillFollows}
 use Rattle.layer_joining.specs.declared.RunningGroup.{RunningGroup}
 use Rattle.layer_joining.proofs.KeptHeat.{each_more, even_heat, equal_heat}
-use Rattle.layer_joining.proofs.Joining.{met_parts, follows_join}
+use Rattle.layer_joining.proofs.Joining.{met_parts, follows_join, quotient_of}
 
--- the layer i + 1, of volume v and temperature `next`, joins; `sum` and `volume` are the group's with it, `temp` its temperature then
-module _ (vol : List Float) (r : RunningGroup) (i : ℕ) (v next : Float) (sum volume : Accumulator) (temp : Float) (vf : T (fits binary64 v))
-    (e : EntersEven vol i v next r sum volume) (temp_is : finite sum.s ≡ true → temp ≡ total (accumulate r.heat (v ⊛ next)) ⊘ total volume) where
+-- the layer i + 1, of volume v and temperature `next`, joins; `sum`, of the total s, and `volume`, of the total t, are the group's with it
+module _ (vol : List Float) (r : RunningGroup) (i : ℕ) (v next : Float) (sum volume : Accumulator) (s t : Float) (vf : T (fits binary64 v))
+    (e : EntersEven vol i v next r sum s volume) (volume_total : t ≡ total volume) where
+  -- its temperature then
+  abbrev temp : Float
+  temp = s ⊘ t
+
+  temp_is : finite sum.s ≡ true → temp ≡ total (accumulate r.heat (v ⊛ next)) ⊘ total volume
+  temp_is f = quotient_of _ _ _ _ _ (sym (e.total_is f)) volume_total (e.heat_is f)
+
   abbrev met : Float
   met = r.met ⊕ sum.s
 

@@ -1,8 +1,8 @@
 -- States what the code keeps while a round runs (01, Mix), what that says of the round as Round defines it, and a layer that joins. No definition of a call
 -- cites this: it stands in the contracts of the functions that work a round, and a round that they work is proved to be `one_round`.
-use Rattle.std.specs.Prelude.{ℕ, zero, suc, ◌+◌, ◌-◌, ◌≤◌, ◌<◌, Bool, true, not, ◌⊎◌, ◌≡◌, List, T, get_or, Float}
-use Rattle.std.specs.Float.{nan, inf, binary64}
-use Rattle.std.specs.Float.Ieee.{fits, is_nan, eq}
+use Rattle.std.specs.Prelude.{ℕ, zero, suc, ◌+◌, ◌-◌, ◌≤◌, ◌<◌, Bool, true, not, ◌⊎◌, ◌≡◌, List, T, get_or, Float, Option, Some, None}
+use Rattle.std.specs.Float.{nan, binary64}
+use Rattle.std.specs.Float.Ieee.{fits, is_nan, le, eq}
 use Rattle.std.specs.Float.Ieee.Scale.{finite}
 use Rattle.numeric.specs.Double.{◌⊕◌, ◌⊛◌, one_f, ◌⊘◌, zero_f}
 use Rattle.numeric.specs.Zeros.{SameValue}
@@ -33,10 +33,15 @@ HeatFinite n vol temps = (k : ℕ) → k < n → T (finite (get_or vol k nan ⊛
 abbrev pub SaysJoins : Float → Float → Bool → Type 0
 SaysJoins lower upper b = T (finite lower) → T (finite upper) → joins lower upper ≡ b
 
--- what stands below the layer `bottom`: minus infinity below the lowest
-abbrev pub layer_below : List Float → ℕ → Float
-layer_below temps zero = inf true
-layer_below temps (suc k) = get_or temps k nan
+-- what stands below the layer `bottom`: nothing below the lowest
+abbrev pub layer_below : List Float → ℕ → Option Float
+layer_below temps zero = None
+layer_below temps (suc k) = Some (get_or temps k nan)
+
+-- a layer of the temperature x has none below it that is warmer
+abbrev pub not_above : Option Float → Float → Bool
+not_above None x = true
+not_above (Some y) x = le y x
 
 -- the group's state after a pair that joins: `heat` is the sum at the new temperature, and its s answers for the products in it
 abbrev pub joined_group : RunningGroup → Float → Accumulator → Accumulator → Float → Float → RunningGroup
@@ -93,17 +98,14 @@ pub record EntersAny (vol : List Float) (i : ℕ) (v : Float) (r : RunningGroup)
   pub enters : Enters vol i v r
   pub volume_is : volume ≡ accumulate r.volume (v ⊛ one_f)
 
--- and each layer of the group has the volume v, and `heat` is the group's with the layer's own, where that is finite
-pub record EntersEven (vol : List Float) (i : ℕ) (v next : Float) (r : RunningGroup) (heat volume : Accumulator) : Type 0 where
+-- and each layer of the group has the volume v, and `heat`, of the total `heat_total`, is the group's with the layer's own, where that is finite
+pub record EntersEven (vol : List Float) (i : ℕ) (v next : Float) (r : RunningGroup) (heat : Accumulator) (heat_total : Float) (volume : Accumulator)
+    : Type 0 where
   pub any : EntersAny vol i v r volume
   pub each_is : eq v r.each ≡ true
   pub heat_s : heat.s ≡ r.heat.s ⊕ (v ⊛ next)
   pub heat_is : finite heat.s ≡ true → heat ≡ accumulate r.heat (v ⊛ next)
-
--- and `guess` is the heat's total
-pub record EntersGuessed (vol : List Float) (i : ℕ) (v next : Float) (r : RunningGroup) (heat volume : Accumulator) (guess : Float) : Type 0 where
-  pub even : EntersEven vol i v next r heat volume
-  pub guessed : finite heat.s ≡ true → total heat ≡ guess
+  pub total_is : finite heat.s ≡ true → total heat ≡ heat_total
 
 -- q is the group with the layer: it starts where r does, and follows the round as r did, whatever the layers are, if the pair joins
 pub record StillFollows (vol : List Float) (i : ℕ) (next : Float) (r q : RunningGroup) : Type 0 where

@@ -2,7 +2,7 @@
 #![tactic(auto)]
 
 ghost use Rattle.std.specs.Prelude.{◌≡◌};
-ghost use Rattle.layer_joining.specs.Running.{EachWith, joined_group, Enters, EntersAny, EntersEven, EntersGuessed, StillFollows};
+ghost use Rattle.layer_joining.specs.Running.{EachWith, joined_group, Enters, EntersAny, EntersEven, StillFollows};
 
 use mixing::limits::MAX_LAYERS;
 use numeric::sum2::Accumulator;
@@ -17,9 +17,10 @@ pub struct RunningGroup {
     pub heat: Accumulator,
     pub volume: Accumulator,
     // The volume of each of its layers, not-a-number where they differ.
+    // Kept: `v == each` fails by itself where they differ; an Option would ask two things of each layer that joins (a mixing took up to 5 % longer).
     pub each: f64,
-    // The layer below it, minus infinity where there is none; and whether the layers below it are in order.
-    pub below: f64,
+    // The layer below it, where there is one; and whether the layers below it are in order.
+    pub below: Option<f64>,
     pub sorted: bool,
     // A plain sum of the products met: it is finite only where each of them is.
     pub met: f64,
@@ -72,8 +73,8 @@ fn join_any(
     ensures { StillFollows vol.now i next r result }
 {
     let own = v * next;
-    let heat = numeric::sum2::add_term(r.heat, own);
-    let temp = numeric::sum2::total_of(heat) / numeric::sum2::total_of(volume);
+    let heat = r.heat.add_term(own);
+    let temp = heat.total_of() / volume.total_of();
     let met = r.met + heat.s;
     let each = each_with(r.each, v);
     if temp == r.temp {
@@ -96,7 +97,10 @@ fn join_any(
     )
 }
 
-// The same where each layer has the volume v, and `heat` is the group's with the layer's own: one product tells whether all are what they were.
+// The same where each layer has the volume v, and `heat`, of this total, is the group's with the layer's own: one product tells whether all are what they were.
+// Kept: apart from join_any: it asks more of the group, and other sums serve it. It is inlined at both calls, on the mixing's hot path: a division that waits
+// for either total takes the longer time of both, and as a call of its own a mixing of equal layers took three times as long.
+#[inline(always)]
 fn join_even(
     r: RunningGroup,
     vol: &[f64; MAX_LAYERS],
@@ -104,50 +108,14 @@ fn join_even(
     v: f64,
     next: f64,
     heat: Accumulator,
+    heat_total: f64,
     volume: Accumulator,
 ) -> RunningGroup
-    requires { EntersEven vol.now i v next r heat volume }
+    requires { EntersEven vol.now i v next r heat heat_total volume }
     ensures { StillFollows vol.now i next r result }
 {
     let product = v * r.temp;
-    let temp = numeric::sum2::total_of(heat) / numeric::sum2::total_of(volume);
-    let met = r.met + heat.s;
-    if v * temp == product {
-        return joined(
-            r,
-            temp,
-            group_sums::add_known(r.heat, product, v * next, heat),
-            volume,
-            r.each,
-            met,
-        );
-    }
-    joined(
-        r,
-        temp,
-        group_sums::even_heat(vol, r.bottom, i + 2, temp, v * temp),
-        volume,
-        r.each,
-        met,
-    )
-}
-
-// The same where the heat's total is a guess that proved right. It is written out, as a division that waits for either total takes the longer time of both.
-fn join_even_plain(
-    r: RunningGroup,
-    vol: &[f64; MAX_LAYERS],
-    i: usize,
-    v: f64,
-    next: f64,
-    heat: Accumulator,
-    volume: Accumulator,
-    guess: f64,
-) -> RunningGroup
-    requires { EntersGuessed vol.now i v next r heat volume guess }
-    ensures { StillFollows vol.now i next r result }
-{
-    let product = v * r.temp;
-    let temp = guess / numeric::sum2::total_of(volume);
+    let temp = heat_total / volume.total_of();
     let met = r.met + heat.s;
     let p = v * temp;
     if p == product {
@@ -179,18 +147,20 @@ pub fn join(r: RunningGroup, vol: &[f64; MAX_LAYERS], i: usize, v: f64, next: f6
     let own = v * next;
     let heat = shorter_sums::add_smaller(r.heat, own);
     // A volume counts times 1, as the definition has it; the compiled code leaves that out.
-    let volume = numeric::sum2::add_term(r.volume, v * 1.0);
+    let volume = r.volume.add_term(v * 1.0);
     if v == r.each {
         if own > 0.0 {
             if own <= r.heat.s {
                 let product = v * r.temp;
                 if own < product {
                     let guess = group_sums::guess_total(i - r.bottom, v, r.temp, product, own);
-                    if group_sums::is_total(heat, guess) {
-                        return join_even_plain(r, vol, i, v, next, heat, volume, guess);
+                    if let Some(guess) = guess {
+                        if group_sums::is_total(heat, guess) {
+                            return join_even(r, vol, i, v, next, heat, guess, volume);
+                        }
                     }
                 }
-                return join_even(r, vol, i, v, next, heat, volume);
+                return join_even(r, vol, i, v, next, heat, heat.total_of(), volume);
             }
         }
     }

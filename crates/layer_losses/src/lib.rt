@@ -9,23 +9,21 @@ ghost use Rattle.layer_losses.specs.Loss.{limited_temp, surplus_term, layer_afte
 use cylinder::Cylinder;
 use set_points::SetPoints;
 
-// t is above u and not wide-close to it.
+// t is above u and not wide-close to it, by the test of Close that knows which is the larger: a turn asks this of each layer.
 fn is_clearly_above(t: f64, u: f64) -> bool
     ensures { result ≡ clearly_above t u }
 {
-    if t > u {
-        return !numeric::close::is_close_above(t, u, numeric::close::WIDE);
-    }
-    false
+    t > u && !numeric::close::is_close_above(t, u, numeric::close::WIDE)
 }
 
+#[tactic(auto, using(set_points::proofs::Given::upper_cases), unfolding(crate::specs::Loss::over_upper))]
 pub fn is_over_upper(p: SetPoints, t: f64) -> bool
     ensures { result ≡ over_upper p t }
 {
-    if set_points::has_upper(p) {
-        return is_clearly_above(t, set_points::upper_of(p));
+    match p.upper() {
+        Some(u) => is_clearly_above(t, u),
+        None => false,
     }
-    false
 }
 
 // W/K: 45 is the standard test's water at 65 less its room at 20.
@@ -35,45 +33,13 @@ fn stand_by_losses_coefficient(c: Cylinder) -> f64
     (1000.0 * c.standby) / (24.0 * 45.0)
 }
 
-// A warmed layer is counted at no more than the upper set point.
-fn counted_temp(p: SetPoints, warmed: bool, t: f64) -> f64
-    ensures { result ≡ counted_temp p warmed t }
-{
-    if set_points::has_upper(p) {
-        if warmed {
-            return numeric::compare::min_of_2(t, set_points::upper_of(p));
-        }
-        return t;
-    }
-    t
-}
-
-// What a layer of volume v at t loses in the step.
-fn standing_loss(c: Cylinder, v: f64, t: f64) -> f64
-    ensures { result ≡ standing_loss c v t }
-{
-    (stand_by_losses_coefficient(c) * c.rho * c.cp) * (v / c.volume) * (t - c.ambient) * c.timestep
-}
-
-// The loss of a layer of volume v at t, less what earlier heaters charged it.
-fn thermal_loss(c: Cylinder, v: f64, p: SetPoints, warmed: bool, t: f64, earlier: f64) -> f64
-    ensures { result ≡ loss c v p warmed t earlier }
-{
-    let standing = standing_loss(c, v, counted_temp(p, warmed, t));
-    numeric::compare::max_of_2(0.0, standing - earlier)
-}
-
-// A warmed layer over the upper set point ends exactly there; any other drops by its loss. `capacity` is the heat of one degree.
-fn limited_temp(p: SetPoints, warmed: bool, t: f64, lost: f64, capacity: f64) -> f64
-    ensures { result ≡ limited_temp p warmed t lost capacity }
-{
-    if warmed {
-        if is_over_upper(p, t) {
-            return set_points::upper_of(p);
-        }
-        return t - lost / capacity;
-    }
-    t - lost / capacity
+// A layer after the mixing: its volume, its temperature before the heat and now, and what earlier heaters charged it in this step.
+#[derive(Clone, Copy)]
+pub struct Layer {
+    pub volume: f64,
+    pub before: f64,
+    pub mixed: f64,
+    pub charged: f64,
 }
 
 // What a layer loses, and the temperature at which it ends.
@@ -83,36 +49,81 @@ pub struct LayerAfter {
     pub temp: f64,
 }
 
-fn after_loss(c: Cylinder, v: f64, p: SetPoints, warmed: bool, t: f64, earlier: f64) -> LayerAfter
-    ensures { result ≡ layer_after c v p warmed t earlier }
-{
-    let lost = thermal_loss(c, v, p, warmed, t, earlier);
-    let temp = limited_temp(p, warmed, t, lost, c.rho * c.cp * v);
-    LayerAfter { lost, temp }
-}
-
-// The same of a layer that was at `before`. Whether it is warmed is asked once, and most layers are not.
-pub fn layer_after(
-    c: Cylinder,
-    v: f64,
-    p: SetPoints,
-    before: f64,
-    t: f64,
-    earlier: f64,
-) -> LayerAfter
-    ensures { result ≡ layer_after c v p (clearly_above t before) t earlier }
-{
-    if is_clearly_above(t, before) {
-        return after_loss(c, v, p, true, t, earlier);
+impl Layer {
+    fn is_warmed(self) -> bool
+        ensures { result ≡ clearly_above self.mixed self.before }
+    {
+        is_clearly_above(self.mixed, self.before)
     }
-    after_loss(c, v, p, false, t, earlier)
-}
 
-// Of a layer that was at `before`: its heat less its loss less its heat at the set point.
-pub fn layer_surplus(c: Cylinder, v: f64, p: SetPoints, before: f64, t: f64, earlier: f64) -> f64
-    ensures { result ≡ surplus_term p t (loss c v p (clearly_above t before) t earlier) (c.rho ⊛ c.cp ⊛ v) }
-{
-    let warmed = is_clearly_above(t, before);
-    let lost = thermal_loss(c, v, p, warmed, t, earlier);
-    c.rho * c.cp * v * t - lost - c.rho * c.cp * v * set_points::upper_of(p)
+    // A warmed layer is counted at no more than the upper set point.
+    #[tactic(auto, using(set_points::proofs::Given::upper_cases), unfolding(crate::specs::Loss::counted_temp))]
+    fn counted_temp(self, p: SetPoints, warmed: bool) -> f64
+        ensures { result ≡ counted_temp p warmed self.mixed }
+    {
+        match p.upper() {
+            Some(u) if warmed => numeric::compare::min_of_2(self.mixed, u),
+            _ => self.mixed,
+        }
+    }
+
+    // What the layer loses in the step at the temperature t.
+    #[tactic(auto, unfolding(crate::specs::Loss::standing_loss))]
+    fn standing_loss(self, c: Cylinder, t: f64) -> f64
+        ensures { result ≡ standing_loss c self.volume t }
+    {
+        (stand_by_losses_coefficient(c) * c.rho * c.cp)
+            * (self.volume / c.volume)
+            * (t - c.ambient)
+            * c.timestep
+    }
+
+    // Its loss, less what earlier heaters charged it.
+    #[tactic(auto, unfolding(crate::specs::Loss::loss))]
+    fn loss(self, c: Cylinder, p: SetPoints, warmed: bool) -> f64
+        ensures { result ≡ loss c self.volume p warmed self.mixed self.charged }
+    {
+        let standing = self.standing_loss(c, self.counted_temp(p, warmed));
+        numeric::compare::max_of_2(0.0, standing - self.charged)
+    }
+
+    // A warmed layer over the upper set point ends exactly there; any other drops by its loss. `capacity` is the heat of one degree.
+    #[tactic(auto, using(set_points::proofs::Given::upper_cases), unfolding(crate::specs::Loss::over_upper, crate::specs::Loss::limited_temp))]
+    fn limited_temp(self, p: SetPoints, warmed: bool, lost: f64, capacity: f64) -> f64
+        ensures { result ≡ limited_temp p warmed self.mixed lost capacity }
+    {
+        match p.upper() {
+            Some(u) if warmed && is_clearly_above(self.mixed, u) => u,
+            _ => self.mixed - lost / capacity,
+        }
+    }
+
+    fn after_loss(self, c: Cylinder, p: SetPoints, warmed: bool) -> LayerAfter
+        ensures { result ≡ layer_after c self.volume p warmed self.mixed self.charged }
+    {
+        let lost = self.loss(c, p, warmed);
+        let temp = self.limited_temp(p, warmed, lost, c.rho * c.cp * self.volume);
+        LayerAfter { lost, temp }
+    }
+
+    // Whether it is warmed is asked once, and most layers are not: a call for each answer, which is compiled without further questions.
+    pub fn after(self, c: Cylinder, p: SetPoints) -> LayerAfter
+        ensures { result ≡ layer_after c self.volume p (clearly_above self.mixed self.before) self.mixed self.charged }
+    {
+        if self.is_warmed() {
+            self.after_loss(c, p, true)
+        } else {
+            self.after_loss(c, p, false)
+        }
+    }
+
+    // Its heat less its loss less its heat at the set point; not a number where there is no upper set point, as this is asked only where it is passed.
+    pub fn surplus(self, c: Cylinder, p: SetPoints) -> f64
+        ensures { result ≡ surplus_term p self.mixed (loss c self.volume p (clearly_above self.mixed self.before) self.mixed self.charged)
+            (c.rho ⊛ c.cp ⊛ self.volume) }
+    {
+        let lost = self.loss(c, p, self.is_warmed());
+        let capacity = c.rho * c.cp * self.volume;
+        capacity * self.mixed - lost - capacity * p.upper().unwrap_or(f64::NAN)
+    }
 }

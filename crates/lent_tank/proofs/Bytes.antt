@@ -6,7 +6,6 @@ use mathlib.Core.Path.{◌≡◌, refl, ap}
 use mathlib.Core.Bool.{Bool, true, false, not}
 use mathlib.Core.List.{List, [], ◌∷◌}
 use lib.Dec.{eqb, eqb-suc-zero}
-use Rattle.tank_arrays.proofs.LentArrays.{list_same}
 use Rattle.lent_tank.specs.Flags.{flag_in, byte_of, flags_in, bytes_of, ZeroOrOne}
 
 -- the reader's test
@@ -34,11 +33,11 @@ byte_back (suc (suc b)) l = absurd (omega arith)
 
 pub flags_back : (fs : List Bool) → flags_in (bytes_of fs) ≡ fs
 flags_back [] = refl
-flags_back (f ∷ fs) = list_same (flag_back f) (flags_back fs)
+flags_back (f ∷ fs) = rw (flag_back f, flags_back fs)
 
 pub bytes_back : (bs : List ℕ) → ZeroOrOne bs → bytes_of (flags_in bs) ≡ bs
 bytes_back [] z = refl
-bytes_back (b ∷ bs) z = list_same (byte_back b (z 0)) (bytes_back bs (λ i. z (suc i)))
+bytes_back (b ∷ bs) z = rw (byte_back b (z 0), bytes_back bs (λ i. z (suc i)))
 
 byte_small : (f : Bool) → byte_of f ≤ 1
 unfolding byte_of

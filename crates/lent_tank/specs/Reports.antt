@@ -4,12 +4,12 @@ use Rattle.std.specs.Float.{nan}
 use Rattle.numeric.specs.Tabulate.{tabulate}
 use Rattle.working_order.specs.Order.{max_heaters}
 use Rattle.tank_model.specs.declared.HeaterLine.{HeaterLine}
-use Rattle.tank_arrays.specs.Arrays.{lines_in}
+use Rattle.lent_tank.specs.Layout.{lines_in}
 use Rattle.storage_tank.specs.declared.Report.{Report}
 use Rattle.lent_tank.specs.Flags.{flags_in, bytes_of}
 
 -- what stands past the end of a list of lines
-abbrev no_line : HeaterLine
+abbrev pub no_line : HeaterLine
 no_line = record { flag = false; adjusted = nan; supplied = nan; losses = nan; rounds = 0 }
 
 -- ---- from arrays

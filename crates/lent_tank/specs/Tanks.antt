@@ -3,9 +3,8 @@ use Rattle.std.specs.Prelude.{ℕ, ◌≡◌, List, [], ◌∷◌, get_or, Float
 use Rattle.std.specs.Float.{nan}
 use Rattle.cylinder.specs.declared.Cylinder.{Cylinder}
 use Rattle.tank_model.specs.declared.TankDesign.{TankDesign}
-use Rattle.tank_arrays.specs.Arrays.{fitted_in, heaters_of, thermostats_of}
+use Rattle.lent_tank.specs.Layout.{fitted_in, thermostats_of}
 use Rattle.storage_tank.specs.declared.StorageTank.{StorageTank}
-use Rattle.storage_tank.specs.Tank.{tank_with}
 use Rattle.lent_tank.specs.Flags.{flags_in, bytes_of}
 
 -- ---- from arrays
@@ -25,7 +24,20 @@ cylinder_in counts numbers = record {
 -- thermostats and flags are bytes
 abbrev pub tank_in : List ℕ → List Float → List Float → List Float → List ℕ → List ℕ → StorageTank
 tank_in counts numbers temps heaters thermostats flags =
-    tank_with (cylinder_in counts numbers) (get_or counts 1 0) temps heaters (flags_in thermostats) (flags_in flags)
+    let c = cylinder_in counts numbers in
+    record {
+      layers = c.layers;
+      volume = c.volume;
+      standby = c.standby;
+      rho = c.rho;
+      cp = c.cp;
+      ambient = c.ambient;
+      timestep = c.timestep;
+      temps = temps;
+      heaters = get_or counts 1 0;
+      fitted = fitted_in heaters (flags_in thermostats);
+      flags = flags_in flags;
+    }
 
 unfoldable pub design_in : List ℕ → List Float → Float → List Float → List ℕ → TankDesign
 design_in counts numbers initial heaters thermostats = record {
@@ -49,15 +61,14 @@ counts_of t = t.layers ∷ t.heaters ∷ []
 abbrev pub numbers_of : StorageTank → List Float
 numbers_of t = t.volume ∷ t.standby ∷ t.rho ∷ t.cp ∷ t.ambient ∷ t.timestep ∷ []
 
--- the arrays of numbers hold the tank
-pub record TankHeld (t : StorageTank) (counts : List ℕ) (numbers temps heaters : List Float) : Type 0 where
+-- the arrays of numbers hold the tank, its heaters apart
+pub record TankHeld (t : StorageTank) (counts : List ℕ) (numbers temps : List Float) : Type 0 where
   pub counts_held : counts ≡ counts_of t
   pub numbers_held : numbers ≡ numbers_of t
   pub temps_held : temps ≡ t.temps
-  pub heaters_held : heaters ≡ heaters_of t.fitted
 
 -- and the bytes are those of its flags
-pub record TankWritten (t : StorageTank) (counts : List ℕ) (numbers temps heaters : List Float) (thermostats flags : List ℕ) : Type 0 where
-  pub held : TankHeld t counts numbers temps heaters
+pub record TankWritten (t : StorageTank) (counts : List ℕ) (numbers temps : List Float) (thermostats flags : List ℕ) : Type 0 where
+  pub held : TankHeld t counts numbers temps
   pub thermostats_written : thermostats ≡ bytes_of (thermostats_of t.fitted)
   pub flags_written : flags ≡ bytes_of t.flags

@@ -1,84 +1,89 @@
 // A report, from the arrays that hold it and back.
 ghost use Rattle.std.specs.Prelude.{◌≡◌};
+ghost use Rattle.lent_tank.specs.Layout.{lines_in};
+ghost use Rattle.lent_tank.specs.Flags.{flags_in};
 ghost use Rattle.lent_tank.specs.Reports.{report_in, totals_of, figures_of, line_flags_of, rounds_of};
 
+use crate::{THREE_EACH, TWO_EACH};
 use storage_tank::Report;
-use tank_arrays::arrays::THREE_EACH;
 use tank_model::HeaterLine;
 use working_order::MAX_HEATERS;
 
-pub fn report_in(
-    totals: [f64; 4],
-    figures: [f64; THREE_EACH],
-    flags: [u8; MAX_HEATERS],
-    rounds: [usize; MAX_HEATERS],
-) -> Report
-    ensures { result ≡ report_in totals figures flags rounds }
+// Adjusted inputs stand first, then energies supplied, then losses.
+fn lines_in(
+    figures: &[f64; THREE_EACH],
+    flags: &[u8; MAX_HEATERS],
+    rounds: &[usize; MAX_HEATERS],
+) -> [HeaterLine; MAX_HEATERS]
+    ensures { result ≡ lines_in figures.now (flags_in flags.now) rounds.now }
 {
     let on = crate::flags::flags_in(flags);
-    let lines = tank_arrays::arrays::lines_in(figures, on, rounds);
+    let mut lines = [HeaterLine::default(); MAX_HEATERS];
+    for h in 0..MAX_HEATERS {
+        lines[h] = HeaterLine {
+            flag: on[h],
+            adjusted: figures[h],
+            supplied: figures[MAX_HEATERS + h],
+            losses: figures[TWO_EACH + h],
+            rounds: rounds[h],
+        };
+    }
+    lines
+}
+
+#[tactic(auto, unfolding(crate::specs::Reports::report_in))]
+pub fn report_in(
+    totals: &[f64; 4],
+    figures: &[f64; THREE_EACH],
+    flags: &[u8; MAX_HEATERS],
+    rounds: &[usize; MAX_HEATERS],
+) -> Report
+    ensures { result ≡ report_in totals.now figures.now flags.now rounds.now }
+{
     Report {
         energy: totals[0],
         used: totals[1],
         average: totals[2],
         recoverable: totals[3],
-        lines,
+        lines: lines_in(figures, flags, rounds),
     }
 }
 
-pub fn totals_of(r: Report) -> [f64; 4]
-    ensures { result ≡ totals_of r }
+pub fn totals_of(r: &Report) -> [f64; 4]
+    ensures { result ≡ totals_of r.now }
 {
     [r.energy, r.used, r.average, r.recoverable]
 }
 
-pub fn figures_of(lines: [HeaterLine; MAX_HEATERS]) -> [f64; THREE_EACH]
-    ensures { result ≡ figures_of lines }
+pub fn figures_of(lines: &[HeaterLine; MAX_HEATERS]) -> [f64; THREE_EACH]
+    ensures { result ≡ figures_of lines.now }
 {
-    let a = lines[0];
-    let b = lines[1];
-    let c = lines[2];
-    let d = lines[3];
-    let e = lines[4];
-    let f = lines[5];
-    let g = lines[6];
-    let h = lines[7];
-    [
-        a.adjusted, b.adjusted, c.adjusted, d.adjusted, e.adjusted, f.adjusted, g.adjusted,
-        h.adjusted, a.supplied, b.supplied, c.supplied, d.supplied, e.supplied, f.supplied,
-        g.supplied, h.supplied, a.losses, b.losses, c.losses, d.losses, e.losses, f.losses,
-        g.losses, h.losses,
-    ]
+    let mut figures = [0.0; THREE_EACH];
+    for h in 0..MAX_HEATERS {
+        let x = lines[h];
+        figures[h] = x.adjusted;
+        figures[MAX_HEATERS + h] = x.supplied;
+        figures[TWO_EACH + h] = x.losses;
+    }
+    figures
 }
 
-pub fn line_flags_of(lines: [HeaterLine; MAX_HEATERS]) -> [bool; MAX_HEATERS]
-    ensures { result ≡ line_flags_of lines }
+pub fn line_flags_of(lines: &[HeaterLine; MAX_HEATERS]) -> [bool; MAX_HEATERS]
+    ensures { result ≡ line_flags_of lines.now }
 {
-    let a = lines[0];
-    let b = lines[1];
-    let c = lines[2];
-    let d = lines[3];
-    let e = lines[4];
-    let f = lines[5];
-    let g = lines[6];
-    let h = lines[7];
-    [
-        a.flag, b.flag, c.flag, d.flag, e.flag, f.flag, g.flag, h.flag,
-    ]
+    let mut flags = [false; MAX_HEATERS];
+    for h in 0..MAX_HEATERS {
+        flags[h] = lines[h].flag;
+    }
+    flags
 }
 
-pub fn rounds_of(lines: [HeaterLine; MAX_HEATERS]) -> [usize; MAX_HEATERS]
-    ensures { result ≡ rounds_of lines }
+pub fn rounds_of(lines: &[HeaterLine; MAX_HEATERS]) -> [usize; MAX_HEATERS]
+    ensures { result ≡ rounds_of lines.now }
 {
-    let a = lines[0];
-    let b = lines[1];
-    let c = lines[2];
-    let d = lines[3];
-    let e = lines[4];
-    let f = lines[5];
-    let g = lines[6];
-    let h = lines[7];
-    [
-        a.rounds, b.rounds, c.rounds, d.rounds, e.rounds, f.rounds, g.rounds, h.rounds,
-    ]
+    let mut rounds = [0; MAX_HEATERS];
+    for h in 0..MAX_HEATERS {
+        rounds[h] = lines[h].rounds;
+    }
+    rounds
 }

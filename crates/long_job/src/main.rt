@@ -3,7 +3,9 @@
 #![tactic(auto)]
 
 use input_window::window::MAX_WINDOW;
+use job_run::lines::Figures;
+use job_windows::input::run_input;
 
 fn main(rt: HostRuntime) {
-    job_windows::input::run_input(&rt, b"long_job", false, [0; MAX_WINDOW]);
+    run_input::<Figures>(&rt, b"long_job", [0; MAX_WINDOW]);
 }

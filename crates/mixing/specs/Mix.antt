@@ -1,13 +1,14 @@
--- States the call mix (01, The four calls; refusals 1, 3 and 9): its number, its rounds and what it leaves in the lent layers, and the enum that answers the
--- first two.
-use Rattle.std.specs.Prelude.{ℕ, cond, ◌&&◌, ◌||◌, List, ◌≡◌, length, replicate, eqb, ltb, Float}
+-- States the call mix (01, The four calls; refusals 1, 3 and 9): its number, its rounds and what it leaves in the lent layers, and the answer that tells the
+-- first two: the rounds, or the refusal.
+use Rattle.std.specs.Prelude.{ℕ, cond, ◌&&◌, ◌||◌, List, ◌≡◌, length, replicate, eqb, ltb, Float, Result, Ok, Err}
 use Rattle.std.specs.Float.Ieee.{lt}
 use Rattle.std.specs.Float.Ieee.Scale.{finite}
+use Rattle.refusals.specs.declared.Refusal.{Refusal}
+use Rattle.refusals.specs.declared.Refusal.TheVariants.{OutOfOrder}
+use Rattle.refusals.specs.Refusals.{number_in, refusal_with}
 use Rattle.numeric.specs.Double.{zero_f}
 use Rattle.mixing.specs.Limits.{max_layers}
 use Rattle.mixing.specs.Rearrange.{Mixing, sorted, unsorted, rearrange}
-use Rattle.mixing.specs.declared.MixAnswer.{MixAnswer}
-use Rattle.mixing.specs.declared.MixAnswer.TheVariants.{Mixed, Refused}
 
 -- ---- number, rounds and layers
 
@@ -49,40 +50,35 @@ mix_layers layers volume = cond (eqb (mix_refusal layers volume) 0) (temps_of la
 
 -- ---- the answer
 
--- the number of each case: that of 01's refusal, 0 where the mix is accepted
-abbrev pub number_of : MixAnswer → ℕ
-number_of (Mixed rounds) = 0
-number_of (Refused number) = number
-
--- the rounds of each case: those run, 0 where the mix is refused
-abbrev pub rounds_of : MixAnswer → ℕ
-rounds_of (Mixed rounds) = rounds
-rounds_of (Refused number) = 0
+-- the rounds of an answer: those run, 0 where the mix is refused
+abbrev pub rounds_of : Result ℕ Refusal → ℕ
+rounds_of (Ok rounds) = rounds
+rounds_of (Err refusal) = 0
 
 -- what a mixing answers
-abbrev pub answer_of : Mixing → MixAnswer
-answer_of (sorted after k) = Mixed k
-answer_of unsorted = Refused 9
+abbrev pub answer_of : Mixing → Result ℕ Refusal
+answer_of (sorted after k) = Ok k
+answer_of unsorted = Err OutOfOrder
 
 -- the answer is that of the mixing x, and `after` is what x leaves of the temperatures it was lent
-pub record LeftBy (x : Mixing) (temps : List Float) (answer : MixAnswer) (after : List Float) : Type 0 where
+pub record LeftBy (x : Mixing) (temps : List Float) (answer : Result ℕ Refusal) (after : List Float) : Type 0 where
   pub answers : answer ≡ answer_of x
   pub leaves : after ≡ temps_of temps x
 
 -- n layers of these volumes were mixed in place
-abbrev pub Rearranged : ℕ → List Float → List Float → MixAnswer → List Float → Type 0
+abbrev pub Rearranged : ℕ → List Float → List Float → Result ℕ Refusal → List Float → Type 0
 Rearranged n vol temps answer after = LeftBy (rearrange n vol temps) temps answer after
 
 -- the same of a call's layers, which all have the one volume
-abbrev pub MixWorked : List Float → Float → MixAnswer → List Float → Type 0
+abbrev pub MixWorked : List Float → Float → Result ℕ Refusal → List Float → Type 0
 MixWorked layers volume answer after = LeftBy (mixing layers volume) layers answer after
 
-abbrev pub mix_answer : List Float → Float → MixAnswer
-mix_answer layers volume = cond (eqb (mix_refusal layers volume) 0) (answer_of (mixing layers volume)) (Refused (mix_refusal layers volume))
+abbrev pub mix_answer : List Float → Float → Result ℕ Refusal
+mix_answer layers volume = cond (eqb (mix_refusal layers volume) 0) (answer_of (mixing layers volume)) (Err (refusal_with (mix_refusal layers volume)))
 
 -- a mix of these layers, each of this volume, gives this answer and leaves these layers
-pub record MixAnswered (layers : List Float) (volume : Float) (answer : MixAnswer) (after : List Float) : Type 0 where
-  pub number : number_of answer ≡ mix_number layers volume
+pub record MixAnswered (layers : List Float) (volume : Float) (answer : Result ℕ Refusal) (after : List Float) : Type 0 where
+  pub number : number_in answer ≡ mix_number layers volume
   pub rounds : rounds_of answer ≡ mix_rounds layers volume
   pub leaves : after ≡ mix_layers layers volume
   pub answers : answer ≡ mix_answer layers volume

@@ -11,19 +11,22 @@ pub const NARROW: f64 = 2.220446049250313e-16;
 // The wide one.
 pub const WIDE: f64 = 1e-10;
 
+// Kept: f64::abs gives 0.0 for -0.0, and 01's definition that number itself.
+#[tactic(auto, unfolding(crate::specs::Close::magnitude))]
 pub fn magnitude_of(x: f64) -> f64
     ensures { result ≡ magnitude x }
 {
     if x < 0.0 { -x } else { x }
 }
 
+#[tactic(auto, using(crate::proofs::Infinity::is_infinite_tells))]
 pub fn is_infinite(x: f64) -> bool
     ensures { result ≡ infinite x }
 {
-    let infinity = 1.0 / 0.0;
-    if x == infinity { true } else { x == -infinity }
+    x.is_infinite()
 }
 
+#[tactic(auto, unfolding(crate::specs::Close::within))]
 fn is_within(a: f64, b: f64, e: f64) -> bool
     ensures { result ≡ within a b e }
 {
@@ -49,6 +52,7 @@ pub fn is_within_above(a: f64, b: f64, e: f64) -> bool
 }
 
 // Equal; or neither infinite, and the distance is at most e or at most 1e-9 of the larger magnitude.
+#[tactic(auto, unfolding(crate::specs::Close::close))]
 pub fn is_close(a: f64, b: f64, e: f64) -> bool
     ensures { result ≡ close a b e }
 {
@@ -64,12 +68,14 @@ pub fn is_close(a: f64, b: f64, e: f64) -> bool
     is_within(a, b, e)
 }
 
+#[tactic(auto, unfolding(crate::specs::Close::narrow_close))]
 pub fn is_narrow_close(a: f64, b: f64) -> bool
     ensures { result ≡ narrow_close a b }
 {
     is_close(a, b, NARROW)
 }
 
+#[tactic(auto, unfolding(crate::specs::Close::wide_close))]
 pub fn is_wide_close(a: f64, b: f64) -> bool
     ensures { result ≡ wide_close a b }
 {
@@ -89,16 +95,6 @@ fn is_close_pair(lower: f64, upper: f64, e: f64) -> bool
         return !is_infinite(upper);
     }
     false
-}
-
-// Close of a number and one above it.
-pub fn is_close_below(lower: f64, upper: f64, e: f64) -> bool
-    ensures { finite e ≡ true → lt lower upper ≡ true → result ≡ close lower upper e }
-{
-    if lower > 0.0 {
-        return is_close_pair(lower, upper, e);
-    }
-    is_close(lower, upper, e)
 }
 
 // Close of a number and one below it.

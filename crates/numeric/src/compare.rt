@@ -5,34 +5,34 @@ ghost use Rattle.std.specs.Float.Ieee.Scale.{finite};
 ghost use Rattle.numeric.specs.Double.{zero_f};
 ghost use Rattle.numeric.specs.Compare.{min_of2, max_of2, SaysSame};
 
+// Kept: 01 prescribes the Rust's own; f64::min and f64::max answer otherwise where a number is not one, and leave open which zero they give.
+#[tactic(auto, unfolding(crate::specs::Compare::min_of2))]
 pub fn min_of_2(first: f64, second: f64) -> f64
     ensures { result ≡ min_of2 first second }
 {
     if first < second { first } else { second }
 }
 
+#[tactic(auto, unfolding(crate::specs::Compare::max_of2))]
 pub fn max_of_2(first: f64, second: f64) -> f64
     ensures { result ≡ max_of2 first second }
 {
     if first > second { first } else { second }
 }
 
-// Neither infinite nor not-a-number: strictly between the infinities.
+// Neither infinite nor not-a-number.
+#[tactic(auto, using(crate::proofs::Infinity::is_finite_tells))]
 pub fn is_finite(x: f64) -> bool
     ensures { result ≡ finite x }
 {
-    let infinity = 1.0 / 0.0;
-    if x < infinity { -infinity < x } else { false }
+    x.is_finite()
 }
 
 // What 01 asks of a volume, a density, a specific heat and a step length.
 pub fn is_finite_above_zero(x: f64) -> bool
     ensures { result ≡ (finite x && lt zero_f x) }
 {
-    if is_finite(x) {
-        return x > 0.0;
-    }
-    false
+    is_finite(x) && x > 0.0
 }
 
 // Equal doubles are the same where they are above zero.

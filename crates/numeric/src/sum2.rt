@@ -9,25 +9,28 @@ pub struct Accumulator {
     pub c: f64,
 }
 
-pub fn start() -> Accumulator
-    ensures { result ≡ nothing_added }
-{
-    Accumulator { s: 0.0, c: 0.0 }
-}
-
-pub fn add_term(a: Accumulator, b: f64) -> Accumulator
-    ensures { result ≡ accumulate a b }
-{
-    let x = a.s + b;
-    let z = x - a.s;
-    Accumulator {
-        s: x,
-        c: a.c + ((a.s - (x - z)) + (b - z)),
+impl Accumulator {
+    pub fn start() -> Accumulator
+        ensures { result ≡ nothing_added }
+    {
+        Accumulator { s: 0.0, c: 0.0 }
     }
-}
 
-pub fn total_of(a: Accumulator) -> f64
-    ensures { result ≡ total a }
-{
-    a.s + a.c
+    #[tactic(auto, unfolding(crate::specs::Sum2::accumulate))]
+    pub fn add_term(self, b: f64) -> Accumulator
+        ensures { result ≡ accumulate self b }
+    {
+        let x = self.s + b;
+        let z = x - self.s;
+        Accumulator {
+            s: x,
+            c: self.c + ((self.s - (x - z)) + (b - z)),
+        }
+    }
+
+    pub fn total_of(self) -> f64
+        ensures { result ≡ total self }
+    {
+        self.s + self.c
+    }
 }

@@ -11,23 +11,20 @@ pub fn whole_of(n: usize) -> f64
     n as f64
 }
 
-// The largest whole number below n that is at most x, and 0 where there is none: looked for from the lowest up. `next` is the double of k + 1.
+// The largest whole number below n that is at most x, and 0 where there is none: looked for from the lowest up.
 pub fn whole_below(n: usize, x: f64) -> usize
     requires { n ≤ 9007199254740992 }
     ensures { result ≡ whole_below n x }
 {
-    let mut k = 0;
-    let mut next = 1.0;
-    while k + 1 < n {
-        if !(next <= x) {
-            return k;
+    for k in 1..n {
+        if !(whole_of(k) <= x) {
+            return k - 1;
         }
-        k += 1;
-        next = next + 1.0;
     }
-    k
+    n.saturating_sub(1)
 }
 
+#[tactic(auto, unfolding(crate::specs::Whole::layer_of))]
 pub fn layer_of(position: f64, layers: usize) -> usize
     requires { layers ≤ 9007199254740992 }
     ensures { result ≡ layer_of position layers }

@@ -4,23 +4,15 @@ ghost use Rattle.mixing.specs.Limits.{max_layers};
 ghost use Rattle.mixing.specs.Rearrange.{is_sorted};
 ghost use Rattle.mixing.specs.Mix.{Rearranged};
 
-use mixing::MixAnswer;
 use mixing::limits::MAX_LAYERS;
+use refusals::Refusal;
 
 // Each of n layers at most the one above it.
 pub fn is_sorted(n: usize, temps: &[f64; MAX_LAYERS]) -> bool
     requires { (1 ≤ n) × (n ≤ max_layers) }
     ensures { result ≡ is_sorted n temps.now }
 {
-    let pairs = n - 1;
-    let mut i = 0;
-    while i < pairs {
-        if !(temps[i] <= temps[i + 1]) {
-            return false;
-        }
-        i += 1;
-    }
-    true
+    temps[..n].is_sorted()
 }
 
 // Mixes the layers `initial` in `temps`, whatever is in there.
@@ -29,21 +21,19 @@ pub fn rearrange_plain(
     vol: &[f64; MAX_LAYERS],
     initial: &[f64; MAX_LAYERS],
     temps: &mut [f64; MAX_LAYERS],
-) -> MixAnswer
+) -> Result<usize, Refusal>
     requires { (1 ≤ n) × (n ≤ max_layers) }
     ensures { Rearranged n vol.now initial.now result temps.new }
 {
     let first = *initial;
     *temps = first;
     let limit = mixing::limits::max_rounds(n);
-    let mut k = 0;
-    while k < limit {
+    for k in 0..limit {
         crate::round::mix_round(n, vol, temps);
-        k += 1;
         if is_sorted(n, temps) {
-            return MixAnswer::Mixed(k);
+            return Ok(k + 1);
         }
     }
     *temps = first;
-    MixAnswer::Refused(9)
+    Err(Refusal::OutOfOrder)
 }

@@ -4,28 +4,22 @@ ghost use Rattle.mixing.specs.Limits.{max_layers};
 ghost use Rattle.mixing.specs.Round.{joins, member, group_temp, fill, walk_at, pair, one_round};
 
 use mixing::limits::MAX_LAYERS;
+use numeric::sum2::Accumulator;
 
 // A pair joins the group: its lower layer is hotter or narrow-close.
+#[tactic(auto, unfolding(mixing::specs::Round::joins))]
 pub fn does_join(lower: f64, upper: f64) -> bool
     ensures { result ≡ joins lower upper }
 {
-    if lower > upper {
-        return true;
-    }
-    numeric::close::is_narrow_close(lower, upper)
+    lower > upper || numeric::close::is_narrow_close(lower, upper)
 }
 
 // 1 for a layer k of the group from bottom to below end, 0 for a layer outside it.
+#[tactic(auto, unfolding(mixing::specs::Round::member))]
 fn member_of(bottom: usize, end: usize, k: usize) -> f64
     ensures { result ≡ member bottom end k }
 {
-    if bottom <= k {
-        if k < end {
-            return 1.0;
-        }
-        return 0.0;
-    }
-    0.0
+    if bottom <= k && k < end { 1.0 } else { 0.0 }
 }
 
 // What the group's layers take: both sums run over all n layers, in one pass.
@@ -39,16 +33,14 @@ fn group_temp(
     requires { n ≤ max_layers }
     ensures { result ≡ group_temp n vol.now temps.now bottom end }
 {
-    let mut heat = numeric::sum2::start();
-    let mut volume = numeric::sum2::start();
-    let mut k = 0;
-    while k < n {
+    let mut heat = Accumulator::start();
+    let mut volume = Accumulator::start();
+    for k in 0..n {
         let m = member_of(bottom, end, k);
-        heat = numeric::sum2::add_term(heat, vol[k] * temps[k] * m);
-        volume = numeric::sum2::add_term(volume, vol[k] * m);
-        k += 1;
+        heat = heat.add_term(vol[k] * temps[k] * m);
+        volume = volume.add_term(vol[k] * m);
     }
-    numeric::sum2::total_of(heat) / numeric::sum2::total_of(volume)
+    heat.total_of() / volume.total_of()
 }
 
 // The layers from bottom to below end take x.
@@ -56,14 +48,11 @@ pub fn fill_group(bottom: usize, end: usize, x: f64, temps: &mut [f64; MAX_LAYER
     requires { (bottom ≤ end) × (end ≤ max_layers) }
     ensures { temps.new ≡ fill bottom end x temps.old }
 {
-    let mut k = bottom;
-    while k < end {
-        temps[k] = x;
-        k += 1;
-    }
+    temps[bottom..end].fill(x);
 }
 
 // The pair of the layers i and i + 1, where the running group starts at bottom; the answer is where it starts after the pair.
+#[tactic(auto, unfolding(mixing::specs::Round::pair))]
 fn mix_pair(
     n: usize,
     vol: &[f64; MAX_LAYERS],
@@ -87,11 +76,8 @@ pub fn mix_round(n: usize, vol: &[f64; MAX_LAYERS], temps: &mut [f64; MAX_LAYERS
     requires { (1 ≤ n) × (n ≤ max_layers) }
     ensures { temps.new ≡ one_round n vol.now temps.old }
 {
-    let pairs = n - 1;
     let mut bottom = 0;
-    let mut i = 0;
-    while i < pairs {
+    for i in 0..n - 1 {
         bottom = mix_pair(n, vol, i, bottom, temps);
-        i += 1;
     }
 }

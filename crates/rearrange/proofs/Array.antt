@@ -5,9 +5,10 @@ use Prim.Native.Nat.{ℕ, ◌≤◌}
 use lib.Ieee.{Float}
 use lib.ListN.{length, take}
 use lib.Seq.{take_at}
+use Rattle.std.specs.Prelude.{Ok, Err}
 use Rattle.mixing.specs.Rearrange.{Mixing, sorted, unsorted, rearrange}
 use Rattle.mixing.specs.Mix.{answer_of, temps_of}
-use Rattle.mixing.specs.declared.MixAnswer.TheVariants.{Mixed, Refused}
+use Rattle.refusals.specs.declared.Refusal.{Refusal}
 use Rattle.mixing.proofs.Length.{rearrange_length}
 use Rattle.mixing.proofs.Places.{followed_by, rearrange_first}
 
@@ -16,13 +17,13 @@ module _ (xs ys : List Float) where
   same_answer (sorted us k) = refl
   same_answer unsorted = refl
 
-  back : (m : Mixing) (k : ℕ) → answer_of m ≡ Mixed k → length (temps_of xs m) ≡ length xs → take (length xs) (temps_of (xs ++ ys) (followed_by ys m)) ≡ temps_of xs m
+  back : (m : Mixing) (k : ℕ) → answer_of m ≡ Ok k → length (temps_of xs m) ≡ length xs → take (length xs) (temps_of (xs ++ ys) (followed_by ys m)) ≡ temps_of xs m
   back (sorted us j) k a e = take_at us ys (length xs) e
   back unsorted k a e = cc
 
-  kept : (m : Mixing) (number : ℕ) → answer_of m ≡ Refused number → xs ≡ temps_of xs m
-  kept (sorted us j) number a = cc
-  kept unsorted number a = refl
+  kept : (m : Mixing) (r : Refusal) → answer_of m ≡ Err r → xs ≡ temps_of xs m
+  kept (sorted us j) r a = cc
+  kept unsorted r a = refl
 
 module _ (vol xs ys : List Float) (l : 1 ≤ length xs) where
   alone : rearrange (length xs) vol (xs ++ ys) ≡ followed_by ys (rearrange (length xs) vol xs)
@@ -31,8 +32,8 @@ module _ (vol xs ys : List Float) (l : 1 ≤ length xs) where
   pub array_answer : answer_of (rearrange (length xs) vol (xs ++ ys)) ≡ answer_of (rearrange (length xs) vol xs)
   array_answer = ap answer_of alone ∙ same_answer xs ys (rearrange (length xs) vol xs)
 
-  pub array_accepted : (k : ℕ) → answer_of (rearrange (length xs) vol xs) ≡ Mixed k → take (length xs) (temps_of (xs ++ ys) (rearrange (length xs) vol (xs ++ ys))) ≡ temps_of xs (rearrange (length xs) vol xs)
+  pub array_accepted : (k : ℕ) → answer_of (rearrange (length xs) vol xs) ≡ Ok k → take (length xs) (temps_of (xs ++ ys) (rearrange (length xs) vol (xs ++ ys))) ≡ temps_of xs (rearrange (length xs) vol xs)
   array_accepted k a = rw alone (back xs ys (rearrange (length xs) vol xs) k a (rearrange_length (length xs) vol xs))
 
-  pub array_refused : (number : ℕ) → answer_of (rearrange (length xs) vol xs) ≡ Refused number → xs ≡ temps_of xs (rearrange (length xs) vol xs)
-  array_refused number a = kept xs ys (rearrange (length xs) vol xs) number a
+  pub array_refused : (r : Refusal) → answer_of (rearrange (length xs) vol xs) ≡ Err r → xs ≡ temps_of xs (rearrange (length xs) vol xs)
+  array_refused r a = kept xs ys (rearrange (length xs) vol xs) r a

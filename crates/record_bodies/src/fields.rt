@@ -17,10 +17,8 @@ pub fn volumes_at(s: &[u8], at: usize, n: usize) -> [f64; MAX_EVENTS]
     ensures { result ≡ volumes_at s.now at n }
 {
     let mut volumes = [0.0; MAX_EVENTS];
-    let mut i = 0;
-    while i < n {
+    for i in 0..n {
         volumes[i] = f64_at(s, at + 8 * i);
-        i += 1;
     }
     volumes
 }
@@ -30,14 +28,7 @@ pub fn are_presence_bytes(s: &[u8], at: usize, n: usize) -> bool
     requires { (n ≤ max_heaters) × (at + 17 * n ≤ length s.now) }
     ensures { result ≡ holds (is_presence_at s.now at) n 0 }
 {
-    let mut k = 0;
-    while k < n {
-        if s[at + 17 * k] > 3 {
-            return false;
-        }
-        k += 1;
-    }
-    true
+    (0..n).all(|k| s[at + 17 * k] <= 3)
 }
 
 // Bit 0 of the presence byte is the lower set point, bit 1 the upper. An absent double is not looked at.
@@ -45,8 +36,7 @@ pub fn points_at(s: &[u8], at: usize) -> SetPoints
     requires { at + 17 ≤ length s.now }
     ensures { result ≡ points_at s.now at }
 {
-    let presence = s[at];
-    match presence {
+    match s[at] {
         0 => SetPoints::Neither,
         1 => SetPoints::Lower(f64_at(s, at + 1)),
         2 => SetPoints::Upper(f64_at(s, at + 9)),
@@ -62,11 +52,8 @@ pub fn settings_at(s: &[u8], at: usize, n: usize) -> [Setting; MAX_HEATERS]
     let mut settings = [Setting {
         points: SetPoints::Neither,
     }; MAX_HEATERS];
-    let mut k = 0;
-    while k < n {
-        let points = points_at(s, at + 17 * k);
-        settings[k] = Setting { points };
-        k += 1;
+    for k in 0..n {
+        settings[k].points = points_at(s, at + 17 * k);
     }
     settings
 }

@@ -1,7 +1,7 @@
 -- Proves the filling of one layer from its parts (01, Refill): what the donors gave, then what the feed gave, and whether the event ends in a mixing.
 use Prim.Native.Nat.{ℕ}
 use mathlib.Core.Path.{◌≡◌, sym, ◌∙◌}
-use mathlib.Core.Bool.{Bool, true, false, ◌||◌}
+use mathlib.Core.Bool.{Bool, ◌||◌}
 use mathlib.Core.List.{List}
 use lib.ListN.{get_or, set}
 use lib.Ieee.{Float, nan}
@@ -32,12 +32,3 @@ unfolding refill_layer filling_of
 layer_refilled vol feed before i held temps mixes given s f g b p =
     let below : filling_with given f ≡ take_below before i (filling_with held (start_filling (get_or vol i nan) (get_or held i nan) (get_or before i nan))) = rw donors_descend (rw p.starts at p.donors) in
     rw (← below, ← p.fed, p.warmer)
-
--- `mixes` after the test whether the feed's water is warmer
-pub mixes_now : (mixes warmer b : Bool) → warmer ≡ true → b ≡ true → b ≡ (mixes || warmer)
-mixes_now true warmer b t e = e
-mixes_now false warmer b t e = e ∙ sym t
-
-pub mixes_still : (mixes warmer b : Bool) → warmer ≡ false → b ≡ mixes → b ≡ (mixes || warmer)
-mixes_still true warmer b t e = e
-mixes_still false warmer b t e = e ∙ sym t

@@ -9,6 +9,7 @@ use lib.ListN.{length, get_or, set}
 use lib.Seq.{get_or-set_same, get_or-set_other}
 use lib.Ieee.{Float, nan, inf, fin, lt, eq, of_bits}
 use lib.Ieee.Scale.{finite}
+use Rattle.std.proofs.Math.Bool.{or-false}
 use Rattle.numeric.specs.Double.{◌⊕◌, ◌⊖◌, ◌⊛◌, ◌⊘◌, zero_f}
 use Rattle.numeric.specs.Compare.{min_of2}
 use Rattle.numeric.specs.Close.{wide_close, close}
@@ -41,10 +42,6 @@ place_there (x ∷ xs) (suc d) l = let h = place_there xs d l in omega arith
 zero_is_none : no_volume zero_f ≡ true
 unfolding no_volume wide_close close lt eq of_bits
 zero_is_none = refl
-
-or_false : (b : Bool) → (b || false) ≡ b
-or_false true = refl
-or_false false = refl
 
 -- ---- a layer whose lack the layer below it closes
 module _ (vol : List Float) (feed : Feed) (before : List Float) where
@@ -80,7 +77,7 @@ module _ (vol : List Float) (feed : Feed) (before : List Float) where
 
     layer_next : (temps : List Float) (mixes : Bool) → refill_layer vol feed before i (refill_of held temps mixes) ≡ refill_of (set (set held d (get_or held d nan ⊖ lack)) i (get_or held i nan ⊕ lack)) (set temps i (weight ⊘ (get_or held i nan ⊕ lack))) mixes
     unfolding refill_layer from_feed enters_warmer lt of_bits
-    layer_next temps mixes = rw (filling_next, or_false mixes)
+    layer_next temps mixes = rw (filling_next, or-false mixes)
 
 -- ---- a layer that repeats, over a full one
 module _ (vol held : List Float) (i : ℕ) (kept : KeptFilling) (o : OverFull vol held i kept) where

@@ -1,52 +1,49 @@
 // `calc_temps_after_extraction`: from the top, a layer lacking water takes from the layers below it, nearest first, then from the feed.
-ghost use Rattle.std.specs.Prelude.{◌≡◌, ◌≤◌};
-ghost use Rattle.mixing.specs.Limits.{max_layers};
+ghost use Rattle.std.specs.Prelude.{◌≡◌};
 ghost use Rattle.refill.specs.Refill.{refill};
 ghost use Rattle.refill.specs.Lent.{refill_of};
 
+use cylinder::LayeredCylinder;
 use draw_off::cold::Feed;
+use layer_filling::LayerFilling;
 use mixing::limits::MAX_LAYERS;
 
 // The answer is whether the event ends in a mixing. The temperatures met are those from before the event: a layer is written when all above it are.
 pub fn calc_temps_after_extraction(
-    n: usize,
-    vol: &[f64; MAX_LAYERS],
+    tank: &LayeredCylinder,
     feed: Feed,
     temps: &mut [f64; MAX_LAYERS],
     held: &mut [f64; MAX_LAYERS],
 ) -> bool
-    requires { n ≤ max_layers }
     ensures { refill_of held.new temps.new result
-        ≡ refill n vol.now feed temps.old held.old }
+        ≡ refill tank.now.numbers.layers tank.now.vol feed temps.old held.old }
 {
+    let n = tank.numbers.layers;
+    let vol = &tank.vol;
     let mut mixes = false;
     let mut kept = repeating_layers::keep_filling(n, vol, held);
-    let mut i = n;
-    'filling: while 0 < i {
-        i -= 1;
+    'filling: for i in (0..n).rev() {
         // The layer takes from the one below it just what was taken from itself.
-        if repeating_layers::is_over_full(i, kept, vol, held) {
-            temps[i] = (kept.held * temps[i] + kept.lack * temps[i - 1]) / kept.after;
-            held[i - 1] = kept.held;
-            held[i] = kept.after;
-            continue 'filling;
+        if let Some(volumes) = kept {
+            if volumes.is_over_full(i, vol, held) {
+                temps[i] = (volumes.held * temps[i] + volumes.lack * temps[i - 1]) / volumes.after;
+                held[i - 1] = volumes.held;
+                held[i] = volumes.after;
+                continue 'filling;
+            }
         }
-        let mut f = layer_filling::start_filling(vol[i], held[i], temps[i]);
+        let mut f = LayerFilling::new(vol[i], held[i], temps[i]);
         if cylinder::is_no_volume(f.lack) {
             break 'filling;
         }
-        let mut j = i;
-        'donors: while 0 < j {
-            j -= 1;
+        'donors: for j in (0..i).rev() {
             if cylinder::is_no_volume(f.lack) {
                 break 'donors;
             }
-            f = layer_filling::take_from(j, f, temps, held);
+            f = f.take_from(j, temps, held);
         }
-        if layer_filling::does_enter_warmer(feed, f) {
-            mixes = true;
-        }
-        f = layer_filling::take_from_feed(feed, f);
+        mixes |= f.does_enter_warmer(feed);
+        f = f.take_from_feed(feed);
         temps[i] = f.weighted / f.volume;
         held[i] = f.volume;
         kept = repeating_layers::keep_filling(i, vol, held);

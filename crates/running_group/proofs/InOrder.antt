@@ -1,5 +1,5 @@
 -- Proves when layers are in order after a group took its temperature (01, Mix): where those below it are, and the highest of them is at most that temperature.
-use mathlib.Core.Path.{◌≡◌, refl, ◌∙◌}
+use mathlib.Core.Path.{◌≡◌, refl}
 use mathlib.Core.Logic.{inl}
 use mathlib.Core.Bool.{Bool, true, false, not, cond, ◌&&◌}
 use mathlib.Core.List.{List}
@@ -8,14 +8,14 @@ use native.Mathlib.Nat.{zero-add}
 use native.Mathlib.Omega.{arith}
 use lib.Dec.{T}
 use lib.ListN.{length, get_or}
-use lib.Ieee.{Float, nan, inf, fin, le, lt, is_nan}
+use lib.Ieee.{Float, nan, inf, fin, le, is_nan}
 use lib.Ieee.Bits.{is_true}
 use lib.Ieee.Scale.{finite}
 use Rattle.numeric.specs.Holds.{holds, holds_split, holds_same, at_holds}
 use Rattle.numeric.specs.Products.{le_self}
 use Rattle.mixing.specs.Round.{fill}
 use Rattle.mixing.specs.Rearrange.{rises}
-use Rattle.layer_joining.specs.Running.{layer_below}
+use Rattle.layer_joining.specs.Running.{layer_below, not_above}
 use Rattle.layer_joining.proofs.Fill.{fill_inside, fill_outside}
 
 finite_number : (x : Float) → T (finite x) → T (not (is_nan x))
@@ -23,12 +23,6 @@ unfolding is_nan
 finite_number nan h = absurd h
 finite_number (inf s) h = absurd h
 finite_number (fin s m e) h = tt
-
-above_infinity : (x : Float) → T (finite x) → le (inf true) x ≡ true
-unfolding le lt
-above_infinity nan h = absurd h
-above_infinity (inf s) h = absurd h
-above_infinity (fin s m e) h = refl
 
 either : (a b : Bool) → (a && (b && true)) ≡ cond a b false
 either true true = refl
@@ -42,10 +36,10 @@ module _ (end : ℕ) (x : Float) (temps : List Float) (f : T (finite x)) (there 
       rw (fill_inside bottom end x temps k l (omega arith) (there k (omega arith)), fill_inside bottom end x temps (k + 1) (omega arith) u (there (k + 1) u)) (is_true (le x x) (le_self x (finite_number x f)))
 
   -- the law
-  pub group_order : (bottom : ℕ) → bottom < end → holds (rises (fill bottom end x temps)) (end - 1) 0 ≡ cond (holds (rises temps) (bottom - 1) 0) (le (layer_below temps bottom) x) false
+  pub group_order : (bottom : ℕ) → bottom < end → holds (rises (fill bottom end x temps)) (end - 1) 0 ≡ cond (holds (rises temps) (bottom - 1) 0) (not_above (layer_below temps bottom) x) false
   unfolding holds
   group_order zero h =
-      at_holds (rises (fill 0 end x temps)) (end - 1) 0 (λ j l u. level 0 j l (omega arith)) ∙ rw (above_infinity x f) refl
+      at_holds (rises (fill 0 end x temps)) (end - 1) 0 (λ j l u. level 0 j l (omega arith))
   group_order (suc b) h =
       let after = fill (suc b) end x temps in
       let e : end - 1 ≡ b + suc (end - 2 - b) = omega arith in

@@ -1,5 +1,6 @@
 -- States what the functions that work a round answer, by what they keep (01, Mix): a group that starts or ends, a pair, and a round.
-use Rattle.std.specs.Prelude.{ℕ, ◌+◌, ◌≤◌, ◌<◌, Bool, true, ◌≡◌, List, T, Float}
+use Rattle.std.specs.Prelude.{ℕ, ◌+◌, ◌≤◌, ◌<◌, Bool, ◌≡◌, List, T, Float, Option}
+use Rattle.std.specs.Option.{IfSome}
 use Rattle.std.specs.Float.{binary64}
 use Rattle.std.specs.Float.Ieee.{fits}
 use Rattle.std.specs.Float.Ieee.Scale.{finite}
@@ -9,10 +10,9 @@ use Rattle.mixing.specs.Round.{fill, one_round}
 use Rattle.mixing.specs.Rearrange.{is_sorted}
 use Rattle.layer_joining.specs.declared.RunningGroup.{RunningGroup}
 use Rattle.layer_joining.specs.Running.{Follows}
-use Rattle.running_group.specs.declared.round.RoundAnswer.{RoundAnswer}
 
 -- a group of the one layer i, of temperature `temp` and volume v, above `below`
-pub record Started (i : ℕ) (temp v below : Float) (sorted : Bool) (met : Float) (q : RunningGroup) : Type 0 where
+pub record Started (i : ℕ) (temp v : Float) (below : Option Float) (sorted : Bool) (met : Float) (q : RunningGroup) : Type 0 where
   pub bottom_is : q.bottom ≡ i
   pub temp_is : q.temp ≡ temp
   pub each_is : q.each ≡ v
@@ -39,6 +39,6 @@ pub record RoundWorked (n : ℕ) (vol old new : List Float) (sorted : Bool) : Ty
   pub leaves : new ≡ one_round n vol old
   pub tells : sorted ≡ is_sorted n new
 
--- the same of a round that met finite products alone
-abbrev pub RoundLeaves : ℕ → List Float → List Float → List Float → RoundAnswer → Type 0
-RoundLeaves n vol old new r = (r.finite ≡ true → RoundWorked n vol old new r.sorted)
+-- the same of a round that answers: it met finite products alone
+abbrev pub RoundLeaves : ℕ → List Float → List Float → List Float → Option Bool → Type 0
+RoundLeaves n vol old new r = IfSome r (λ sorted. RoundWorked n vol old new sorted)

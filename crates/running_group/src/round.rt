@@ -1,39 +1,38 @@
 // One round: the pairs from the bottom up, each joining the running group or ending it.
 ghost use Rattle.std.specs.Prelude.{◌≡◌, false, cond, ◌+◌, ◌≤◌, ◌<◌};
-ghost use Rattle.std.specs.Float.Ieee.{le};
 ghost use Rattle.mixing.specs.Limits.{max_layers};
-ghost use Rattle.layer_joining.specs.Running.{SaysJoins};
+ghost use Rattle.layer_joining.specs.Running.{SaysJoins, not_above};
 ghost use Rattle.running_group.specs.Rounds.{Started, Ended, PairFollows, RoundLeaves};
 
 use layer_joining::RunningGroup;
 use mixing::limits::MAX_LAYERS;
 
-// Whether every product met was finite, and if so whether the layers are in order after the round.
-#[derive(Clone, Copy)]
-pub struct RoundAnswer {
-    pub finite: bool,
-    pub sorted: bool,
-}
-
 // Of finite temperatures: hotter, equal, or narrow-close.
 fn does_join_finite(lower: f64, upper: f64) -> bool
     ensures { SaysJoins lower upper result }
 {
-    if lower >= upper {
-        return true;
-    }
-    numeric::close::is_within_above(lower, upper, numeric::close::NARROW)
+    lower >= upper || numeric::close::is_within_above(lower, upper, numeric::close::NARROW)
 }
 
 // The layers below a group that ends with `temp`, and the group itself.
-fn is_still_sorted(sorted: bool, below: f64, temp: f64) -> bool
-    ensures { result ≡ cond sorted (le below temp) false }
+fn is_still_sorted(sorted: bool, below: Option<f64>, temp: f64) -> bool
+    ensures { result ≡ cond sorted (not_above below temp) false }
 {
-    if sorted { below <= temp } else { false }
+    match below {
+        Some(layer) => sorted && layer <= temp,
+        None => sorted,
+    }
 }
 
 // A group of the one layer i, of volume v.
-fn start_group(i: usize, temp: f64, v: f64, below: f64, sorted: bool, met: f64) -> RunningGroup
+fn start_group(
+    i: usize,
+    temp: f64,
+    v: f64,
+    below: Option<f64>,
+    sorted: bool,
+    met: f64,
+) -> RunningGroup
     ensures { Started i temp v below sorted met result }
 {
     let product = v * temp;
@@ -76,24 +75,18 @@ fn run_pair(
     }
     end_group(r.bottom, i + 1, r.temp, temps);
     let sorted = is_still_sorted(r.sorted, r.below, r.temp);
-    start_group(i + 1, next, v, r.temp, sorted, r.met)
+    start_group(i + 1, next, v, Some(r.temp), sorted, r.met)
 }
 
-// A round in place. Where a product met is not finite, what it leaves is of no use.
-pub fn try_round(n: usize, vol: &[f64; MAX_LAYERS], temps: &mut [f64; MAX_LAYERS]) -> RoundAnswer
+// A round in place; the answer is whether the layers are in order after it. Where a product met is not finite there is none, and what it leaves is of no use.
+pub fn try_round(n: usize, vol: &[f64; MAX_LAYERS], temps: &mut [f64; MAX_LAYERS]) -> Option<bool>
     requires { (1 ≤ n) × (n ≤ max_layers) }
     ensures { RoundLeaves n vol.now temps.old temps.new result }
 {
-    let pairs = n - 1;
-    let mut r = start_group(0, temps[0], vol[0], -(1.0 / 0.0), true, 0.0);
-    let mut i = 0;
-    while i < pairs {
+    let mut r = start_group(0, temps[0], vol[0], None, true, 0.0);
+    for i in 0..n - 1 {
         r = run_pair(r, vol, i, temps);
-        i += 1;
     }
     end_group(r.bottom, n, r.temp, temps);
-    RoundAnswer {
-        finite: numeric::compare::is_finite(r.met),
-        sorted: is_still_sorted(r.sorted, r.below, r.temp),
-    }
+    numeric::compare::is_finite(r.met).then_some(is_still_sorted(r.sorted, r.below, r.temp))
 }

@@ -1,5 +1,5 @@
 -- States each one of a heater's set points (01, Tank: neither, lower only, upper only or both).
-use Rattle.std.specs.Prelude.{Bool, true, false, Float}
+use Rattle.std.specs.Prelude.{Bool, true, false, cond, Option, Some, None, Float}
 use Rattle.std.specs.Float.{nan}
 use Rattle.set_points.specs.declared.SetPoints.{SetPoints}
 use Rattle.set_points.specs.declared.SetPoints.TheVariants.{Neither, Lower, Upper, Both}
@@ -29,3 +29,10 @@ upper_of Neither = nan
 upper_of (Lower l) = nan
 upper_of (Upper u) = u
 upper_of (Both l u) = u
+
+-- each of them, where there is one
+abbrev pub given_lower : SetPoints → Option Float
+given_lower p = cond (has_lower p) (Some (lower_of p)) None
+
+abbrev pub given_upper : SetPoints → Option Float
+given_upper p = cond (has_upper p) (Some (upper_of p)) None

@@ -2,7 +2,7 @@
 #![tactic(auto)]
 
 ghost use Rattle.std.specs.Prelude.{◌≡◌};
-ghost use Rattle.set_points.specs.SetPoints.{has_lower, has_upper, lower_of, upper_of};
+ghost use Rattle.set_points.specs.SetPoints.{given_lower, given_upper};
 
 // A heater's set points: neither, the lower only, the upper only, or both, the lower one first.
 #[derive(Clone, Copy)]
@@ -13,50 +13,24 @@ pub enum SetPoints {
     Both(f64, f64),
 }
 
-pub fn has_lower(p: SetPoints) -> bool
-    ensures { result ≡ has_lower p }
-{
-    match p {
-        SetPoints::Neither => false,
-        SetPoints::Lower(_) => true,
-        SetPoints::Upper(_) => false,
-        SetPoints::Both(_, _) => true,
+impl SetPoints {
+    #[tactic(auto, unfolding(crate::specs::SetPoints::has_lower, crate::specs::SetPoints::lower_of))]
+    pub fn lower(self) -> Option<f64>
+        ensures { result ≡ given_lower self }
+    {
+        match self {
+            SetPoints::Lower(l) | SetPoints::Both(l, _) => Some(l),
+            _ => None,
+        }
     }
-}
 
-pub fn has_upper(p: SetPoints) -> bool
-    ensures { result ≡ has_upper p }
-{
-    match p {
-        SetPoints::Neither => false,
-        SetPoints::Lower(_) => false,
-        SetPoints::Upper(_) => true,
-        SetPoints::Both(_, _) => true,
-    }
-}
-
-// The lower set point, not-a-number where there is none.
-pub fn lower_of(p: SetPoints) -> f64
-    ensures { result ≡ lower_of p }
-{
-    let none = 0.0 / 0.0;
-    match p {
-        SetPoints::Neither => none,
-        SetPoints::Lower(l) => l,
-        SetPoints::Upper(_) => none,
-        SetPoints::Both(l, _) => l,
-    }
-}
-
-// The upper set point, not-a-number where there is none.
-pub fn upper_of(p: SetPoints) -> f64
-    ensures { result ≡ upper_of p }
-{
-    let none = 0.0 / 0.0;
-    match p {
-        SetPoints::Neither => none,
-        SetPoints::Lower(_) => none,
-        SetPoints::Upper(u) => u,
-        SetPoints::Both(_, u) => u,
+    #[tactic(auto, unfolding(crate::specs::SetPoints::has_upper, crate::specs::SetPoints::upper_of))]
+    pub fn upper(self) -> Option<f64>
+        ensures { result ≡ given_upper self }
+    {
+        match self {
+            SetPoints::Upper(u) | SetPoints::Both(_, u) => Some(u),
+            _ => None,
+        }
     }
 }

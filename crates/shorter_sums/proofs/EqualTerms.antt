@@ -19,7 +19,8 @@ use Rattle.numeric.specs.declared.sum2.Accumulator.{Accumulator}
 use Rattle.numeric.proofs.Zeros.{is_minus_zero, add_not_minus}
 use Rattle.shorter_sums.proofs.Sterbenz.{unit, top, rounds_to, total, twice_short, units_at}
 use Rattle.numeric.proofs.Finite.{product_parts_finite}
-use Rattle.shorter_sums.proofs.FastTwoSum.{above_zero, nothing_plus, positive_some, Equals, equals_one, equals_fast, fast}
+use Rattle.shorter_sums.proofs.FastTwoSum.{above_zero, nothing_plus, positive_some, equals_one, equals_fast, fast}
+use Rattle.shorter_sums.specs.Shorter.{Equals}
 use Rattle.shorter_sums.proofs.Fourfold.{third, fourfold}
 use Rattle.shorter_sums.proofs.FourTerms.{near, under_top, less_finite, four_state}
 

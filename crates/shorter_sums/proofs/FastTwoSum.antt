@@ -19,7 +19,7 @@ use Rattle.numeric.specs.declared.sum2.Accumulator.{Accumulator}
 use Rattle.numeric.proofs.Difference.{minus_self}
 use Rattle.numeric.proofs.Zeros.{is_minus_zero, zero_plus, add_not_minus}
 use Rattle.numeric.proofs.Finite.{sum_parts_finite}
-use Rattle.shorter_sums.specs.Shorter.{SmallerAdded}
+use Rattle.shorter_sums.specs.Shorter.{SmallerAdded, Equals}
 use Rattle.shorter_sums.proofs.Sterbenz.{sum_back, sum_above}
 use Rattle.numeric.proofs.Members.{one_term}
 
@@ -54,10 +54,7 @@ fast_two_sum a b p q h l g =
     let some : T (not (is_minus_zero y)) = unfold sub in add_not_minus binary64 b (neg (a.s ⊕ b ⊖ a.s)) q (neg-fits binary64 (a.s ⊕ b ⊖ a.s) (sub-fits binary64 (a.s ⊕ b) a.s)) (positive_some b B) in
     rw (sum_back binary64 a.s b B p q (passes _ l) parts.0 g, minus_self a.s (is_true (finite a.s) parts.0), nothing_plus y (sub-fits binary64 b (a.s ⊕ b ⊖ a.s)) some) refl
 
--- ---- a Sum2 of equal terms above zero, where it is finite: k of them, from any index on, and it is at least one of them
-abbrev pub Equals : Float → ℕ → Accumulator → Type 0
-Equals b k a = T (fits binary64 a.s) × (lt zero_f b ≡ true → T (finite a.s) → T (le b a.s) × ((i : ℕ) → a ≡ iterate (add_at (λ (j : ℕ). b)) k i nothing_added))
-
+-- ---- a Sum2 of equal terms above zero
 pub equals_one : (b : Float) → T (fits binary64 b) → Equals b 1 (record { s = b; c = zero_f })
 unfolding iterate
 equals_one b p = (

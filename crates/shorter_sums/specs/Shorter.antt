@@ -1,6 +1,7 @@
 -- States what the shorter ways to Sum2 give (01, Arithmetic underneath): the sum by its definition, where terms are above zero and what comes out is finite.
-use Rattle.std.specs.Prelude.{ℕ, true, ◌≡◌, Float}
-use Rattle.std.specs.Float.Ieee.{lt, le}
+use Rattle.std.specs.Prelude.{ℕ, true, ◌≡◌, T, Float}
+use Rattle.std.specs.Float.{binary64}
+use Rattle.std.specs.Float.Ieee.{lt, le, fits}
 use Rattle.std.specs.Float.Ieee.Scale.{finite}
 use Rattle.numeric.specs.Double.{◌⊕◌, zero_f}
 use Rattle.numeric.specs.Iterate.{iterate}
@@ -20,3 +21,13 @@ OneAdded b r = (finite b ≡ true → r ≡ accumulate nothing_added b)
 abbrev pub EqualAdded : Float → ℕ → Accumulator → Type 0
 EqualAdded b m r =
     (lt zero_f b ≡ true → finite r.s ≡ true → (i : ℕ) → r ≡ iterate (add_at (λ (k : ℕ). b)) m i nothing_added)
+
+-- ---- a Sum2 of equal terms above zero, where it is finite: k of them, from any index on, and it is at least one of them
+abbrev pub Equals : Float → ℕ → Accumulator → Type 0
+Equals b k a =
+    T (fits binary64 a.s)
+    × (lt zero_f b ≡ true → T (finite a.s) → T (le b a.s) × ((i : ℕ) → a ≡ iterate (add_at (λ (j : ℕ). b)) k i nothing_added))
+
+-- where a is the sum of k terms b, r is that of m of them
+abbrev pub MoreAdded : Accumulator → Float → ℕ → ℕ → Accumulator → Type 0
+MoreAdded a b k m r = Equals b k a → Equals b m r

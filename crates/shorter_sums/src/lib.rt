@@ -2,7 +2,7 @@
 #![tactic(auto)]
 
 ghost use Rattle.std.specs.Prelude.{◌≤◌};
-ghost use Rattle.shorter_sums.specs.Shorter.{SmallerAdded, OneAdded, EqualAdded};
+ghost use Rattle.shorter_sums.specs.Shorter.{SmallerAdded, OneAdded, EqualAdded, MoreAdded};
 
 use numeric::sum2::Accumulator;
 
@@ -24,41 +24,36 @@ pub fn one_term(b: f64) -> Accumulator
     Accumulator { s: 0.0 + b, c: 0.0 }
 }
 
-// Sum2 of few equal terms: the same sum where they are above zero and it is finite. Each is at most the sum of those before it.
-fn few_equal_terms(b: f64, m: usize) -> Accumulator
-    requires { 1 ≤ m }
-    ensures { EqualAdded b m result }
+// Where a is the Sum2 of k terms b, that of m of them. Each is at most the sum of those before it. It is inlined at both calls, on the mixing's hot path.
+#[inline(always)]
+fn with_more(a: Accumulator, b: f64, k: usize, m: usize) -> Accumulator
+    requires { k ≤ m }
+    ensures { MoreAdded a b k m result }
 {
-    let mut a = Accumulator { s: b, c: 0.0 };
-    let mut k = 1;
-    while k < m {
-        a = add_smaller(a, b);
-        k += 1;
+    let mut sum = a;
+    for _ in k..m {
+        sum = add_smaller(sum, b);
     }
-    a
+    sum
 }
 
 // Sum2 of equal terms, of more than three from 4 b or 5 b on: four terms lose nothing, and neither of the two waits for a sum of the terms before it.
+// It is the same sum where they are above zero and it is finite.
 pub fn equal_terms(b: f64, m: usize) -> Accumulator
     requires { 1 ≤ m }
     ensures { EqualAdded b m result }
 {
     if m < 4 {
-        return few_equal_terms(b, m);
+        return with_more(Accumulator { s: b, c: 0.0 }, b, 1, m);
     }
     let four = 4.0 * b;
     if m == 4 {
         return Accumulator { s: four, c: 0.0 };
     }
     let five = 5.0 * b;
-    let mut a = Accumulator {
+    let sum = Accumulator {
         s: five,
         c: b - (five - four),
     };
-    let mut k = 5;
-    while k < m {
-        a = add_smaller(a, b);
-        k += 1;
-    }
-    a
+    with_more(sum, b, 5, m)
 }

@@ -1,3 +1,2 @@
--- The lemmas that the proofs of a step's code share.
+-- Proves how the parts of a step's code work out its answer.
 pub mod StepWorked
-pub mod StepParts

@@ -1,4 +1,4 @@
-// A step's work on lent arrays: checks, events, turns and end as one function.
+// A step's work: checks, events, turns and end as one function.
 #![tactic(auto)]
 
 pub mod work;

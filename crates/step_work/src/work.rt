@@ -1,19 +1,23 @@
-// A step's work, from checks to end, on lent arrays.
-ghost use Rattle.std.specs.Prelude.{◌≡◌, cond, ◌&&◌, ◌-◌, ◌≤◌, get_or};
+// A step's work, from checks to end, on what both calls lend.
+ghost use Rattle.std.specs.Prelude.{◌≡◌, cond, ◌&&◌, ◌-◌, ◌≤◌, get_or, replicate};
 ghost use Rattle.std.specs.Float.{nan};
 ghost use Rattle.std.specs.Float.Ieee.Scale.{finite};
 ghost use Rattle.numeric.specs.Double.{◌⊘◌, zero_f};
 ghost use Rattle.numeric.specs.Close.{wide_close};
 ghost use Rattle.mixing.specs.Limits.{max_layers};
-ghost use Rattle.tank_arrays.specs.Arrays.{ZeroLines, fixed_for, step_for};
-ghost use Rattle.step_work.specs.Lent.{RefusedAfter, step_arrays, StepWorkedIn};
+ghost use Rattle.working_order.specs.Order.{max_heaters};
+ghost use Rattle.tank_model.specs.Fixed.{placed_heaters, fixed_by};
+ghost use Rattle.tank_model.specs.Work.{zero_line};
+ghost use Rattle.step_work.specs.Lent.{state_of, StepWorked};
 
+use cylinder::{Cylinder, LayeredCylinder};
 use draw_events::Totals;
-use draw_events::event::MAX_EVENTS;
 use draw_off::cold::Feed;
+use heater_turns::TurnState;
 use mixing::limits::MAX_LAYERS;
-use tank_arrays::arrays::{THREE_EACH, TWO_EACH};
-use tank_model::StepNumbers;
+use numeric::compare::is_finite;
+use refusals::Refusal;
+use tank_model::{Heater, Step, TurnNotes};
 use working_order::MAX_HEATERS;
 
 // Weighted sum / volume drawn, or the top layer if that volume is wide-close to 0.
@@ -22,130 +26,68 @@ fn average_of(n: usize, temps: &[f64; MAX_LAYERS], t: Totals) -> f64
     ensures { result ≡ cond (wide_close t.drawn zero_f) (get_or temps.now (n - 1) nan) (t.weighted ⊘ t.drawn) }
 {
     if numeric::close::is_wide_close(t.drawn, 0.0) {
-        return temps[n - 1];
+        temps[n - 1]
+    } else {
+        t.weighted / t.drawn
     }
-    t.weighted / t.drawn
 }
 
 fn are_both_finite(x: f64, y: f64) -> bool
     ensures { result ≡ (finite x && finite y) }
 {
-    if !numeric::compare::is_finite(x) {
-        return false;
-    }
-    numeric::compare::is_finite(y)
+    is_finite(x) && is_finite(y)
 }
 
-// What a step's work answers: 0 with what was drawn and the two figures of its end, or the number of 01's refusal; and how many heaters had their turn.
+// What an accepted step comes to, besides its layers, its flags and what its turns note: what it has drawn, and the two figures of its end.
 #[derive(Clone, Copy)]
-pub struct WorkAnswer {
-    pub number: u8,
-    pub turns: usize,
+pub struct StepFigures {
     pub totals: Totals,
     pub average: f64,
     pub recoverable: f64,
 }
 
-// Nothing but the number and the turns is looked at.
-fn refused(number: u8, turns: usize) -> WorkAnswer
-    ensures { RefusedAfter number turns result }
-{
-    WorkAnswer {
-        number,
-        turns,
-        totals: draw_events::no_totals(),
-        average: 0.0,
-        recoverable: 0.0,
-    }
-}
-
-// A step's work, from checks to end, on what both calls lend: accepted, the layers, the heaters' flags `on` and the report's lines are what the step leaves.
-// Accepted or refused, the lines, `course` and `ran` hold what its turns wrote.
+// A step of the tank with the cylinder c and the first n of these heaters. Accepted, the layers and the heaters' flags are what the step leaves; refused, they
+// are as they were. `notes`, whose lines are zeros, takes what its turns note, accepted or refused.
 pub fn work_step(
-    q: StepNumbers,
-    heaters: &[f64; THREE_EACH],
-    thermostats: &[bool; MAX_HEATERS],
-    volumes: &[f64; MAX_EVENTS],
-    present: &[bool; TWO_EACH],
-    points: &[f64; TWO_EACH],
+    c: Cylinder,
+    n: usize,
+    fitted: &[Heater; MAX_HEATERS],
+    a: &Step,
     temps: &mut [f64; MAX_LAYERS],
-    on: &mut [bool; MAX_HEATERS],
-    figures: &mut [f64; THREE_EACH],
     flags: &mut [bool; MAX_HEATERS],
-    rounds: &mut [usize; MAX_HEATERS],
-    course: &mut [f64; TWO_EACH],
-    ran: &mut [bool; MAX_HEATERS],
-) -> WorkAnswer
-    requires { ZeroLines figures.old flags.old rounds.old }
-    ensures { StepWorkedIn (fixed_for q heaters.now thermostats.now)
-        (step_for q volumes.now present.now points.now)
-        (step_arrays temps.old on.old figures.old flags.old rounds.old
-        course.old ran.old)
-        result
-        (step_arrays temps.new on.new figures.new flags.new rounds.new
-        course.new ran.new) }
+    notes: &mut TurnNotes,
+) -> Result<StepFigures, Refusal>
+    requires { notes.old.lines ≡ replicate max_heaters zero_line }
+    ensures { StepWorked (fixed_by c (placed_heaters n fitted.now)) (state_of temps.old flags.old) a.now
+        result (state_of temps.new flags.new) notes.old notes.new }
 {
-    let k = tank_refusals::refusals::lent_refusal(
-        q,
-        temps,
-        heaters,
-        thermostats,
-        volumes,
-        present,
-        points,
-    );
-    if k != 0 {
-        return refused(k, 0);
-    }
-    let c = q.cylinder;
-    let vol = cylinder::layer_volumes(c);
-    let water = Feed {
-        temperature: q.feed,
+    notes.worked = 0;
+    tank_refusals::calls::step_refusal(c, n, fitted, temps, a)?;
+    let tank = LayeredCylinder::new(c);
+    // Kept: made here. A state that a function hands back was tried, is copied twice more, and made a small step a fifth slower.
+    let mut state = TurnState {
+        temps: *temps,
+        charged: [0.0; MAX_LAYERS],
+        flags: *flags,
+        losses: 0.0,
     };
-    let d = draw_events::event::draw_events(
-        c,
-        &vol,
-        water,
-        q.events,
-        volumes,
-        temps,
-        draw_events::no_totals(),
-    );
-    if d.number != 0 {
-        return refused(d.number, 0);
-    }
-    let totals = d.totals;
-    let average = average_of(c.layers, temps, totals);
-    let mut charged = [0.0; MAX_LAYERS];
-    let h = heater_turns::heat_turns(
-        c,
-        &vol,
-        q.heaters,
-        heaters,
-        thermostats,
-        present,
-        points,
-        temps,
-        &mut charged,
-        on,
-        figures,
-        flags,
-        rounds,
-        course,
-        ran,
-    );
-    if h.number != 0 {
-        return refused(h.number, h.worked);
-    }
-    let recoverable = h.losses * 0.75;
+    let mut totals = Totals::default();
+    let feed = Feed {
+        temperature: a.feed,
+    };
+    let volumes = &a.volumes[..a.events];
+    draw_events::event::draw_events(&tank, feed, volumes, &mut state.temps, &mut totals)?;
+    let average = average_of(c.layers, &state.temps, totals);
+    heater_turns::heat_turns(&tank, n, fitted, &a.settings, &mut state, notes)?;
+    let recoverable = state.losses * 0.75;
     if !are_both_finite(average, recoverable) {
-        return refused(10, h.worked);
+        return Err(Refusal::NotFinite);
     }
-    WorkAnswer {
-        number: 0,
-        turns: h.worked,
+    *temps = state.temps;
+    *flags = state.flags;
+    Ok(StepFigures {
         totals,
         average,
         recoverable,
-    }
+    })
 }

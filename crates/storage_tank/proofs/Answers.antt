@@ -1,69 +1,103 @@
 -- Proves what make and step answer (01, The four calls) from what their parts decide: what make is refused for, and how a step's work ended.
-use mathlib.Core.Path.{◌≡◌, refl, ap, ◌∙◌}
-use mathlib.Core.List.{List, []}
-use mathlib.Core.Bool.{Bool}
-use Prim.Native.Nat.{ℕ, zero, suc, ◌≤◌}
+use Rattle.std.proofs.Common.{◌≡◌, refl, sym, ap, ◌∙◌, ℕ, zero, suc, ◌≤◌, [], arith}
+use Rattle.std.specs.Prelude.{Ok, Err}
 use lib.Dec.{leb, leb→le}
-use lib.ListN.{length}
-use lib.Ieee.{Float}
 use lib.Ieee.Scale.{finite}
 use lib.Ieee.Fits.{and_r}
+use Rattle.refusals.specs.declared.Refusal.{Refusal}
+use Rattle.refusals.specs.Refusals.{number_of, refusal_with}
+use Rattle.refusals.proofs.Numbers.{refusal_with-number, number-not_0}
 use Rattle.mixing.specs.Limits.{max_layers}
-use Rattle.cylinder.specs.declared.Cylinder.{Cylinder}
-use Rattle.working_order.specs.Order.{max_heaters}
 use Rattle.tank_model.specs.declared.TankDesign.{TankDesign}
 use Rattle.tank_model.specs.declared.Step.{Step}
-use Rattle.tank_model.specs.Fixed.{fixed_of}
+use Rattle.tank_model.specs.declared.TurnNotes.{TurnNotes}
+use Rattle.tank_model.specs.Fixed.{Fixed, State, fixed_of}
 use Rattle.tank_model.specs.Checks.{make_refusal}
 use Rattle.tank_model.specs.Run.{done}
 use Rattle.tank_model.specs.Work.{Outcome, work}
 use Rattle.tank_model.proofs.Passes.{tank_passes}
-use Rattle.tank_arrays.specs.Arrays.{heaters_of, thermostats_of, fixed_with}
-use Rattle.tank_arrays.proofs.LentArrays.{heaters_back}
-use Rattle.step_work.specs.declared.work.WorkAnswer.{WorkAnswer}
-use Rattle.heater_turns.specs.Notes.{Notes, no_notes, with_turns}
+use Rattle.heater_turns.specs.Notes.{no_notes, with_turns}
+use Rattle.heater_turns.specs.Lent.{uncounted}
+use Rattle.heater_turns.proofs.TurnLoop.{turns_counted}
+use Rattle.step_work.specs.declared.work.StepFigures.{StepFigures}
 use Rattle.step_work.specs.Lent.{Left, StepWorked}
 use Rattle.storage_tank.specs.declared.StorageTank.{StorageTank}
 use Rattle.storage_tank.specs.declared.Report.{Report}
-use Rattle.storage_tank.specs.declared.NotedStep.{NotedStep}
+use Rattle.storage_tank.specs.declared.Stepped.{Stepped}
 use Rattle.storage_tank.specs.Tank.{fixed_in, state_in}
 use Rattle.storage_tank.specs.Calls.{zero_tank, new_tank, made, made_of, answer, stepped}
-use Rattle.storage_tank.specs.Answers.{accepted_step, work_of, StepNoted}
+use Rattle.storage_tank.specs.Answers.{work_of, StepNoted}
 
 -- ---- make
 
 module _ (m : TankDesign) where
-  pub made_refused : (k : ℕ) → k ≡ make_refusal (fixed_of m) m.initial → (k ≡ 0 → ⊥) → record { number = k; tank = zero_tank } ≡ made m
-  unfolding made made_of
-  made_refused zero e n = absurd (n refl)
-  made_refused (suc k) e n = rw (← e)
+  pub made_refused : (r : Refusal) → number_of r ≡ make_refusal (fixed_of m) m.initial → record { outcome = Err r; tank = zero_tank } ≡ made m
+  unfolding made
+  made_refused r e = ap (λ (s : Refusal). record { outcome = Err s; tank = zero_tank }) (sym (refusal_with-number r)) ∙ go (number_of r) (number-not_0 r) ∙ ap (made_of m) e
+    where
+      go : (n : ℕ) → (n ≡ 0 → ⊥) → record { outcome = Err (refusal_with n); tank = zero_tank } ≡ made_of m n
+      go zero h = absurd (h refl)
+      go (suc n) h = unfold made_of in refl
 
-  pub made_accepted : make_refusal (fixed_of m) m.initial ≡ 0 → record { number = 0; tank = new_tank m } ≡ made m
+  pub made_accepted : 0 ≡ make_refusal (fixed_of m) m.initial → record { outcome = Ok tt; tank = new_tank m } ≡ made m
   unfolding made made_of
-  made_accepted e = rw e
+  made_accepted e = rw (← e)
 
-  pub made_layers : make_refusal (fixed_of m) m.initial ≡ 0 → m.layers ≤ max_layers
+  pub made_layers : 0 ≡ make_refusal (fixed_of m) m.initial → m.layers ≤ max_layers
   unfolding make_refusal
-  made_layers e = leb→le m.layers max_layers (and_r (leb 1 m.layers) (leb m.layers max_layers) (tank_passes (fixed_of m) (finite m.initial) [] e).layers)
+  made_layers e = leb→le m.layers max_layers (and_r (leb 1 m.layers) (leb m.layers max_layers) (tank_passes (fixed_of m) (finite m.initial) [] (sym e)).layers)
 
 -- ---- step
 
--- arrays made of a tank's heaters hold what the tank fixes
-pub fixed_back : (t : StorageTank) (c : Cylinder) (heaters : List Float) (thermostats : List Bool) → c ≡ (fixed_in t).cylinder → heaters ≡ heaters_of t.fitted → thermostats ≡ thermostats_of t.fitted → length t.fitted ≡ max_heaters
-    → fixed_with c t.heaters heaters thermostats ≡ fixed_in t
-fixed_back t c heaters thermostats d e f l = rw (d, e, f, heaters_back t.fitted l)
+-- the tank with the layers and the flags of st
+abbrev pub with_state : StorageTank → State → StorageTank
+with_state t st = record {
+  layers = t.layers;
+  volume = t.volume;
+  standby = t.standby;
+  rho = t.rho;
+  cp = t.cp;
+  ambient = t.ambient;
+  timestep = t.timestep;
+  temps = st.temps;
+  heaters = t.heaters;
+  fitted = t.fitted;
+  flags = st.flags;
+}
 
-module _ (t : StorageTank) (r : Report) (a : Step) (w : WorkAnswer) (temps : List Float) (flags : List Bool) (x x' : Notes) (worked : StepWorked (fixed_in t) (state_in t) a w temps flags x x') where
-  pub step_refuses : (w.number ≡ 0 → ⊥) → record { number = w.number; tank = t; report = r } ≡ stepped t r a
-  unfolding stepped answer
-  step_refuses n = rw (worked.refuses n)
+-- the code works the step for f, leaves the state st and has noted x, where nothing was noted
+module _ (t : StorageTank) (r : Report) (a : Step) (f : Fixed) (f-is : f ≡ fixed_in t) (st : State) (x0 x : TurnNotes) (none : x0 ≡ no_notes) where
+  noted : (s : Stepped) → s ≡ stepped t r a → x ≡ with_turns (work f (state_in t) a).turns (uncounted x0) → StepNoted t r a (record { stepped = s; notes = x })
+  noted s e n =
+      let n' = rw (f-is, none) at n in
+      record { answers = e; worked = ap (λ (y : TurnNotes). y.worked) n' ∙ (turns_counted (work_of t a).turns no_notes ∙ omega arith); notes = n' }
 
-  pub step_accepts : w.number ≡ 0 → accepted_step t temps flags w x'.lines ≡ stepped t r a
-  step_accepts z = go (worked.accepts z).0 (worked.accepts z).1 (worked.accepts z).2
+  pub step_refused : (e : Refusal) → StepWorked f (state_in t) a (Err e) st x0 x
+      → StepNoted t r a (record { stepped = record { outcome = Err e; tank = with_state t st; report = r }; notes = x })
+  step_refused e w = noted (record { outcome = Err e; tank = with_state t st; report = r }) answers w.noted
     where
-      go : (s : Outcome) → (work (fixed_in t) (state_in t) a).end ≡ done s → Left s w temps flags x'.lines → accepted_step t temps flags w x'.lines ≡ stepped t r a
-      go s e l = unfold stepped answer in (rw (e, ← l.recoverable_is, l.temps_are, l.totals_are, l.average_is, l.flags_are, l.lines_are))
+      answers : record { outcome = Err e; tank = with_state t st; report = r } ≡ stepped t r a
+      answers = unfold stepped answer in (rw (w.ends.1, sym (ap (λ (g : Fixed). (work g (state_in t) a).end) f-is) ∙ w.ends.0, refusal_with-number e))
 
-  -- what is noted from arrays of zeros
-  pub step_noted : (s : NotedStep) → s.stepped ≡ stepped t r a → s.turns ≡ w.turns → x ≡ no_notes → StepNoted t r a s x'
-  step_noted s e n z = record { answers = e; worked = n ∙ worked.noted.worked; notes = worked.noted.notes ∙ ap (with_turns (work_of t a).turns) z }
+  pub step_accepted : (w : StepFigures) → StepWorked f (state_in t) a (Ok w) st x0 x
+      → StepNoted t r a (record {
+        stepped = record {
+          outcome = Ok tt;
+          tank = with_state t st;
+          report = record { energy = w.totals.energy; used = w.totals.used; average = w.average; recoverable = w.recoverable; lines = x.lines };
+        };
+        notes = x;
+      })
+  step_accepted w y = noted answered (answers y.ends.0 y.ends.1 y.ends.2) y.noted
+    where
+      answered : Stepped
+      answered = record {
+        outcome = Ok tt;
+        tank = with_state t st;
+        report = record { energy = w.totals.energy; used = w.totals.used; average = w.average; recoverable = w.recoverable; lines = x.lines };
+      }
+
+      answers : (s : Outcome) → (work f (state_in t) a).end ≡ done s → Left s w st x → answered ≡ stepped t r a
+      answers s e l =
+          unfold stepped answer in
+          (rw (sym (ap (λ (g : Fixed). (work g (state_in t) a).end) f-is) ∙ e, ← l.recoverable_is, l.temps_are, l.totals_are, l.average_is, l.flags_are, l.lines_are))

@@ -10,6 +10,7 @@ use lib.Ieee.Bits.{is_true}
 use lib.ListN.{get_or, drop, replicate}
 use lib.Ieee.{Float, nan}
 use lib.Ieee.Scale.{finite}
+use Rattle.refusals.specs.Refusals.{number_in}
 use Rattle.numeric.specs.Double.{zero_f}
 use Rattle.numeric.specs.Holds.{at_holds}
 use Rattle.mixing.specs.Limits.{max_layers}
@@ -32,11 +33,11 @@ use Rattle.storage_tank.proofs.Demand.{fixed_is, made_is}
 
 -- ---- a refused step
 
-pub refused_step : (t : StorageTank) (r : Report) (a : Step) → 0 < (stepped t r a).number → ((stepped t r a).tank ≡ t) × ((stepped t r a).report ≡ r)
+pub refused_step : (t : StorageTank) (r : Report) (a : Step) → 0 < number_in (stepped t r a).outcome → ((stepped t r a).tank ≡ t) × ((stepped t r a).report ≡ r)
 unfolding stepped
 refused_step t r a l = go (work (fixed_in t) (state_in t) a).end l
   where
-    go : (e : End Outcome) → 0 < (answer t r e).number → ((answer t r e).tank ≡ t) × ((answer t r e).report ≡ r)
+    go : (e : End Outcome) → 0 < number_in (answer t r e).outcome → ((answer t r e).tank ≡ t) × ((answer t r e).report ≡ r)
     go (refused n) l = unfold answer in (refl, refl)
     go (done s) l = absurd (unfold answer in (omega (arith, l)))
 
@@ -60,7 +61,7 @@ initial_finite : (m : TankDesign) → make_refusal (fixed_of m) m.initial ≡ 0 
 unfolding make_refusal
 initial_finite m e = is_true (finite m.initial) (tank_passes (fixed_of m) (finite m.initial) [] e).temperatures
 
-pub made_passes : (m : TankDesign) → (made m).number ≡ 0 → first_refusal (tank_checks (fixed_in (made m).tank) (all_finite (made m).tank.layers (made m).tank.temps)) ≡ 0
+pub made_passes : (m : TankDesign) → number_in (made m).outcome ≡ 0 → first_refusal (tank_checks (fixed_in (made m).tank) (all_finite (made m).tank.layers (made m).tank.temps)) ≡ 0
 made_passes m e =
     let z : design_refusal m ≡ 0 = sym (made_is m).0 ∙ e in
     let held : (made m).tank ≡ tank_of m (start m).state = (made_is m).1 ∙ ap (λ (n : ℕ). holding n (start m)) z in

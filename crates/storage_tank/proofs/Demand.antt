@@ -8,7 +8,6 @@ use native.Mathlib.Omega.{arith}
 use lib.Dec.{T, ltb, lt→ltb, ltb→lt, nltb→le}
 use lib.ListN.{length, get_or, take}
 use lib.Ieee.Bits.{is_true}
-use Rattle.numeric.specs.Double.{zero_f}
 use Rattle.numeric.specs.Tabulate.{tabulate, at_tabulate, past_tabulate, tabulate_same}
 use Rattle.working_order.specs.Order.{max_heaters}
 use Rattle.tank_model.specs.declared.Heater.{Heater}
@@ -25,25 +24,28 @@ use Rattle.tank_model.specs.Course.{accepted, passed, LineTells}
 use Rattle.tank_model.specs.HistoryDemand.{RightlySupplied, AllRightlySupplied, AllTold, no_work, work_at, held_at, design_at, HistoryDemand}
 use Rattle.tank_model.proofs.Members.{all_map, all_both}
 use Rattle.tank_model.proofs.Passes.{made_heaters}
-use Rattle.tank_model.proofs.Run.{more_parts, ended_more}
+use Rattle.refusals.specs.Refusals.{number_in, refusal_with}
+use Rattle.refusals.proofs.Numbers.{number-not_0}
+use Rattle.tank_model.proofs.Numbered.{IsNumber, Numbered, above_zero, make_numbered, work_numbered}
+use Rattle.tank_model.proofs.Run.{RefusedOnly, more_parts, ended_more}
 use Rattle.tank_model.proofs.HistoryDemand.{no_number, history_demand}
 use Rattle.storage_tank.specs.declared.StorageTank.{StorageTank}
 use Rattle.storage_tank.specs.declared.Report.{Report}
 use Rattle.storage_tank.specs.declared.Made.{Made}
 use Rattle.storage_tank.specs.declared.Stepped.{Stepped}
 use Rattle.storage_tank.specs.Tank.{fixed_in}
-use Rattle.storage_tank.specs.Calls.{clean_heater, fitted_heaters, made_of, made, answer, stepped, answered, answers}
+use Rattle.storage_tank.specs.Calls.{fitted_heaters, made_of, made, answer, stepped, answered, answers}
 use Rattle.storage_tank.specs.Demand.{AnswersSupplies, AnswersTotals, AnswersNumber, no_answer, last_tank, tank_of, NoTank, holding, AsGiven, FittedAsGiven, Demand3, Promises}
 
 -- ---- a tank that holds make's numbers is read as make's arguments
 
 abbrev fitted_at : ℕ → List Heater → ℕ → Heater
-fitted_at n xs h = cond (ltb h n) (clean_heater (get_or xs h no_heater)) zero_heater
+fitted_at n xs h = cond (ltb h n) (get_or xs h no_heater) zero_heater
 
-fitted_given : (n h : ℕ) (xs : List Heater) → h < n → h < max_heaters → get_or (fitted_heaters n xs) h no_heater ≡ clean_heater (get_or xs h no_heater)
+fitted_given : (n h : ℕ) (xs : List Heater) → h < n → h < max_heaters → get_or (fitted_heaters n xs) h no_heater ≡ get_or xs h no_heater
 unfolding fitted_heaters
 fitted_given n h xs l k =
-    at_tabulate (fitted_at n xs) max_heaters h no_heater k ∙ ap (λ (b : Bool). cond b (clean_heater (get_or xs h no_heater)) zero_heater) (is_true (ltb h n) (lt→ltb h n l))
+    at_tabulate (fitted_at n xs) max_heaters h no_heater k ∙ ap (λ (b : Bool). cond b (get_or xs h no_heater) zero_heater) (is_true (ltb h n) (lt→ltb h n l))
 
 not_below : (h n : ℕ) → n ≤ h → ltb h n ≡ false
 not_below h n l = go (ltb h n) (ltb→lt h n)
@@ -57,40 +59,18 @@ unfolding fitted_heaters
 fitted_unused n h xs l = go (ltb h max_heaters) (ltb→lt h max_heaters) (nltb→le h max_heaters)
   where
     go : (b : Bool) → (T b → h < max_heaters) → (T (not b) → max_heaters ≤ h) → get_or (tabulate (fitted_at n xs) max_heaters 0) h zero_heater ≡ zero_heater
-    go true k k' = at_tabulate (fitted_at n xs) max_heaters h zero_heater (k tt) ∙ ap (λ (b : Bool). cond b (clean_heater (get_or xs h no_heater)) zero_heater) (not_below h n l)
+    go true k k' = at_tabulate (fitted_at n xs) max_heaters h zero_heater (k tt) ∙ ap (λ (b : Bool). cond b (get_or xs h no_heater) zero_heater) (not_below h n l)
     go false k k' = past_tabulate (fitted_at n xs) max_heaters 0 h zero_heater (k' tt)
 
-clean_as_given : (x y : Heater) → y ≡ clean_heater x → AsGiven x y
-clean_as_given x y e = record {
-  rated = ap (λ (z : Heater). z.rated) e;
-  position = ap (λ (z : Heater). z.position) e;
-  has = ap (λ (z : Heater). z.has_thermostat) e;
-  present = λ t. ap (λ (z : Heater). z.thermostat) e ∙ kept x.has_thermostat t;
-  absent = λ t. ap (λ (z : Heater). z.thermostat) e ∙ dropped x.has_thermostat t;
-}
-  where
-    kept : (b : Bool) → T b → cond b x.thermostat zero_f ≡ x.thermostat
-    kept true t = refl
-    kept false t = absurd t
-
-    dropped : (b : Bool) → T (not b) → cond b x.thermostat zero_f ≡ zero_f
-    dropped true t = absurd t
-    dropped false t = refl
-
--- an absent thermostat's position is not looked at
-clean_placed : (x : Heater) → placed (clean_heater x) ≡ placed x
-clean_placed x = go x.has_thermostat
-  where
-    go : (b : Bool) → ◌≡◌ {A = Placed} (record { rated = x.rated; position = x.position; thermostat = cond b (cond b x.thermostat zero_f) x.position }) (record { rated = x.rated; position = x.position; thermostat = cond b x.thermostat x.position })
-    go true = refl
-    go false = refl
+as_given : (x y : Heater) → y ≡ x → AsGiven x y
+as_given x y e = record { rated = ap (λ (z : Heater). z.rated) e; position = ap (λ (z : Heater). z.position) e; thermostat = ap (λ (z : Heater). z.thermostat) e }
 
 pub fixed_is : (m : TankDesign) (st : State) → m.heaters ≤ max_heaters → fixed_in (tank_of m st) ≡ fixed_of m
 unfolding placed_heaters
 fixed_is m st l =
     ap (λ (hs : List Placed). fixed_by (fixed_of m).cylinder hs)
     (tabulate_same (λ (h : ℕ). placed (get_or (tank_of m st).fitted h no_heater)) (λ (h : ℕ). placed (get_or m.fitted h no_heater)) m.heaters 0
-    (λ h l' k. ap placed (fitted_given m.heaters h m.fitted (omega arith) (omega arith)) ∙ clean_placed (get_or m.fitted h no_heater)))
+    (λ h l' k. ap placed (fitted_given m.heaters h m.fitted (omega arith) (omega arith))))
 
 -- ---- one call on a tank that holds x: it answers by the work from the arguments, and hands back a tank that holds what is carried on
 
@@ -124,6 +104,14 @@ module _ (n : ℕ) where
   fits_next x (refused k) f = f
   fits_next x (done s) f = f
 
+  -- what a call's work is refused for has a refusal's number
+  call_numbered : (x : Held) (c : Call) → RefusedOnly IsNumber (call_work n c x).end
+  call_numbered x (step a) = go n
+    where
+      go : (k : ℕ) → RefusedOnly IsNumber (call_work k (step a) x).end
+      go zero = unfold call_work in (work_numbered (fixed_of x.design) x.state a)
+      go (suc k) = unfold call_work in refl
+
   -- ---- a list of calls
 
   -- one call more: its work, and what it leaves to the others
@@ -140,12 +128,12 @@ module _ (n : ℕ) where
 
   -- what holds of a work, of the answer made from its end, and of what the tank holds then, holds of each of a list's
   module _ (Q : Work → Stepped → Held → Type 0)
-      (one : (x : Held) (r : Report) (w : Work) → (answer (holding n x) r w.end).tank ≡ holding n (carry x w.end) → Q w (answer (holding n x) r w.end) (carry x w.end)) where
+      (one : (x : Held) (r : Report) (w : Work) → RefusedOnly IsNumber w.end → (answer (holding n x) r w.end).tank ≡ holding n (carry x w.end) → Q w (answer (holding n x) r w.end) (carry x w.end)) where
     each : (calls : List Call) (x : Held) (r : Report) → Fits x → (i : ℕ) → i < length calls
         → Q (get_or (run (work_call n) calls x).parts i no_work) (get_or (answers (holding n x) r calls) i no_answer) (ended_at x (run (work_call n) (take (suc i) calls) x).end)
     unfolding answers
     each [] x r f i k = absurd (not-suc-le-zero k)
-    each (c ∷ calls) x r f zero k = rw (more_works c calls x, more_held c [] x, call_is x r c f) (unfold run in (one x r (call_work n c x) (tank_is x r c)))
+    each (c ∷ calls) x r f zero k = rw (more_works c calls x, more_held c [] x, call_is x r c f) (unfold run in (one x r (call_work n c x) (call_numbered x c) (tank_is x r c)))
     each (c ∷ calls) x r f (suc i) k =
         rw (more_works c calls x, more_held c (take (suc i) calls) x, answered_tank x r c f)
         (each calls (next c x) (answered (holding n x) r c).report (fits_next x (call_work n c x).end f) i (le_of_suc-le-suc k))
@@ -172,12 +160,12 @@ held_flags (suc k) calls m = sym (ap (λ (x : Held). x.state.flags) (stays k cal
 abbrev NumberIs : Work → Stepped → Type 0
 NumberIs w y = ((k : ℕ) → w.end ≡ refused k → 0 < k) → AnswersNumber w y
 
-number_one : (t : StorageTank) (r : Report) (w : Work) → NumberIs w (answer t r w.end)
-number_one t r w above = go w.end above
+number_one : (t : StorageTank) (r : Report) (w : Work) → RefusedOnly IsNumber w.end → NumberIs w (answer t r w.end)
+number_one t r w is above = go w.end is above
   where
-    go : (e : End Outcome) → ((k : ℕ) → e ≡ refused k → 0 < k) → AnswersNumber (record { events = []; turns = []; end = e }) (answer t r e)
-    go (refused k) f = unfold answer in (refl, (λ t. absurd t, λ t. let l = f k refl in omega arith))
-    go (done s) f = unfold answer in (refl, (λ t. refl, λ t. tt))
+    go : (e : End Outcome) → RefusedOnly IsNumber e → ((k : ℕ) → e ≡ refused k → 0 < k) → AnswersNumber (record { events = []; turns = []; end = e }) (answer t r e)
+    go (refused k) n f = unfold answer in (n, (λ t. absurd t, λ t. absurd (number-not_0 (refusal_with k) t)))
+    go (done s) n f = unfold answer in (refl, (λ t. refl, λ t. tt))
 
 -- an accepted step's report has the lines of its work's end
 abbrev LinesAre : Work → Stepped → Type 0
@@ -226,19 +214,19 @@ all_answered (x ∷ calls) t r = ap suc (all_answered calls (answered t r x).tan
 -- ---- the demand
 
 module _ (m : TankDesign) where
-  pub made_is : ((made m).number ≡ design_refusal m) × ((made m).tank ≡ holding (design_refusal m) (start m))
+  pub made_is : (number_in (made m).outcome ≡ design_refusal m) × ((made m).tank ≡ holding (design_refusal m) (start m))
   unfolding made
-  made_is = go (design_refusal m)
+  made_is = go (design_refusal m) (make_numbered m)
     where
-      go : (n : ℕ) → ((made_of m n).number ≡ n) × ((made_of m n).tank ≡ holding n (start m))
-      go zero = unfold made_of in (refl, refl)
-      go (suc n) = unfold made_of in (refl, refl)
+      go : (n : ℕ) → Numbered n → (number_in (made_of m n).outcome ≡ n) × ((made_of m n).tank ≡ holding n (start m))
+      go zero e = unfold made_of in (refl, refl)
+      go (suc n) e = unfold made_of in (above_zero (suc n) e (λ z. omega arith), refl)
 
   fits : design_refusal m ≡ 0 → m.heaters ≤ max_heaters
   fits e = made_heaters m e
 
   fitted_as_given : (n : ℕ) → n ≡ 0 → m.heaters ≤ max_heaters → FittedAsGiven m (holding n (start m))
-  fitted_as_given zero z l = record { given = λ h k. clean_as_given _ _ (fitted_given m.heaters h m.fitted k (omega arith)); unused = λ h k. fitted_unused m.heaters h m.fitted k }
+  fitted_as_given zero z l = record { given = λ h k. as_given _ _ (fitted_given m.heaters h m.fitted k (omega arith)); unused = λ h k. fitted_unused m.heaters h m.fitted k }
   fitted_as_given (suc n) z l = absurd (omega arith)
 
   no_tank : (n : ℕ) → 0 < n → NoTank (holding n (start m))
@@ -263,12 +251,12 @@ module _ (m : TankDesign) where
     flags = λ h. unfold held_after in (rw (last_is n calls (start m) r fits, held_flags n calls m) (worked.flags h));
     supplies = λ i l. supplies_reported (design_at m calls i) (work_at m calls i) (get_or (answers (holding n (start m)) r calls) i no_answer) (reported i l) (worked.supplies i l);
     reported = reported;
-    totals = λ i l. of_each (λ (w : Work) (y : Stepped) (x : Held). TotalsAre w y) (λ x q w e. totals_one (holding n x) q w) i l;
-    numbers = λ i l. of_each (λ (w : Work) (y : Stepped) (x : Held). NumberIs w y) (λ x q w e. number_one (holding n x) q w) i l (worked.refusals i l);
+    totals = λ i l. of_each (λ (w : Work) (y : Stepped) (x : Held). TotalsAre w y) (λ x q w k e. totals_one (holding n x) q w) i l;
+    numbers = λ i l. of_each (λ (w : Work) (y : Stepped) (x : Held). NumberIs w y) (λ x q w k e. number_one (holding n x) q w k) i l (worked.refusals i l);
     makes = (made_is.0, unfold held_after run in refl);
     fitted = λ e. fitted_as_given n e (fits e);
     refused_make = no_tank n;
-    carries = of_each (λ (w : Work) (y : Stepped) (x : Held). y.tank ≡ holding n x) (λ x q w e. e);
+    carries = of_each (λ (w : Work) (y : Stepped) (x : Held). y.tank ≡ holding n x) (λ x q w k e. e);
     answers_all = all_answered calls (holding n (start m)) r;
   })
     where
@@ -278,14 +266,14 @@ module _ (m : TankDesign) where
       worked : HistoryDemand m calls
       worked = history_demand m calls
 
-      of_each : (Q : Work → Stepped → Held → Type 0) → ((x : Held) (q : Report) (w : Work) → (answer (holding n x) q w.end).tank ≡ holding n (carry x w.end) → Q w (answer (holding n x) q w.end) (carry x w.end))
+      of_each : (Q : Work → Stepped → Held → Type 0) → ((x : Held) (q : Report) (w : Work) → RefusedOnly IsNumber w.end → (answer (holding n x) q w.end).tank ≡ holding n (carry x w.end) → Q w (answer (holding n x) q w.end) (carry x w.end))
           → (i : ℕ) → i < length calls → Q (work_at m calls i) (get_or (answers (holding n (start m)) r calls) i no_answer) (held_at m calls (suc i))
       of_each Q one = unfold history held_after in (each n Q one calls (start m) r fits)
 
       reported : (i : ℕ) → i < length calls → let w = work_at m calls i in T (accepted w.end) → LinesOf w.turns (get_or (answers (holding n (start m)) r calls) i no_answer).report.lines
       reported i l =
           lines_reported (work_at m calls i) (get_or (answers (holding n (start m)) r calls) i no_answer)
-          (of_each (λ (w : Work) (y : Stepped) (x : Held). LinesAre w y) (λ x q w e. lines_one (holding n x) q w) i l) (worked.reported i l)
+          (of_each (λ (w : Work) (y : Stepped) (x : Held). LinesAre w y) (λ x q w k e. lines_one (holding n x) q w) i l) (worked.reported i l)
 
   -- ---- the same of whatever was answered, if each answer is what its call promises
 

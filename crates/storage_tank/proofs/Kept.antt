@@ -9,6 +9,8 @@ use native.Mathlib.Omega.{arith}
 use lib.ListN.{length, get_or, drop, replicate, length-set}
 use lib.Seq.{get_or-set_other}
 use lib.Ieee.{Float}
+use Rattle.refusals.specs.Refusals.{number_in, refusal_with}
+use Rattle.refusals.proofs.Numbers.{number-not_0}
 use Rattle.numeric.specs.Double.{zero_f}
 use Rattle.numeric.specs.Places.{Keeps, keeps_self, keeps_trans}
 use Rattle.mixing.specs.Limits.{max_layers}
@@ -100,12 +102,12 @@ step_keeps t r a = go (work (fixed_in t) (state_in t) a).end (work_left (fixed_i
     go (done s) k = unfold answer in (k.temps, k.flags)
 
 -- the report of an accepted step has zeros past the tank's heaters
-pub report_unused : (t : StorageTank) (r : Report) (a : Step) → (stepped t r a).number ≡ 0 → (h : ℕ) → t.heaters ≤ h → get_or (stepped t r a).report.lines h zero_line ≡ zero_line
+pub report_unused : (t : StorageTank) (r : Report) (a : Step) → number_in (stepped t r a).outcome ≡ 0 → (h : ℕ) → t.heaters ≤ h → get_or (stepped t r a).report.lines h zero_line ≡ zero_line
 unfolding stepped
 report_unused t r a z h l = go (work (fixed_in t) (state_in t) a).end (work_left (fixed_in t) a (state_in t)) z
   where
-    go : (e : End Outcome) → Left (fixed_in t) a (state_in t) e → (answer t r e).number ≡ 0 → get_or (answer t r e).report.lines h zero_line ≡ zero_line
-    go (refused n) k q = absurd (unfold answer in (omega (arith, k, q)))
+    go : (e : End Outcome) → Left (fixed_in t) a (state_in t) e → number_in (answer t r e).outcome ≡ 0 → get_or (answer t r e).report.lines h zero_line ≡ zero_line
+    go (refused n) k q = absurd (unfold answer in (number-not_0 (refusal_with n) q))
     go (done s) k q = unfold answer in (k.lines h (subst (λ (n : ℕ). n ≤ h) (sym (many_placed t.heaters t.fitted)) l))
 
 -- ---- the unused places of the tanks of a list of calls

@@ -1,5 +1,6 @@
 -- States what the calls make and step answer (01, The four calls).
-use Rattle.std.specs.Prelude.{ℕ, zero, suc, false, cond, List, [], ◌∷◌, ◌++◌, ltb, get_or, drop, replicate}
+use Rattle.std.specs.Prelude.{ℕ, zero, suc, false, cond, List, [], ◌∷◌, ◌++◌, ltb, get_or, drop, replicate, Ok, Err}
+use Rattle.refusals.specs.Refusals.{refusal_with}
 use Rattle.numeric.specs.Double.{zero_f}
 use Rattle.numeric.specs.Tabulate.{tabulate}
 use Rattle.mixing.specs.Limits.{max_layers}
@@ -20,18 +21,9 @@ use Rattle.storage_tank.specs.Tank.{fixed_in, state_in}
 
 -- ---- make
 
--- an absent thermostat's position is zero
-abbrev pub clean_heater : Heater → Heater
-clean_heater x = record {
-  rated = x.rated;
-  position = x.position;
-  has_thermostat = x.has_thermostat;
-  thermostat = cond x.has_thermostat x.thermostat zero_f;
-}
-
 -- the first n heaters as given, and zeros
 unfoldable pub fitted_heaters : ℕ → List Heater → List Heater
-fitted_heaters n fitted = tabulate (λ (h : ℕ). cond (ltb h n) (clean_heater (get_or fitted h no_heater)) zero_heater) max_heaters 0
+fitted_heaters n fitted = tabulate (λ (h : ℕ). cond (ltb h n) (get_or fitted h no_heater) zero_heater) max_heaters 0
 
 -- a tank of no layers, no heaters and zeros
 abbrev pub zero_tank : StorageTank
@@ -65,8 +57,8 @@ new_tank m = record {
 }
 
 unfoldable pub made_of : TankDesign → ℕ → Made
-made_of m zero = record { number = 0; tank = new_tank m }
-made_of m (suc n) = record { number = suc n; tank = zero_tank }
+made_of m zero = record { outcome = Ok tt; tank = new_tank m }
+made_of m (suc n) = record { outcome = Err (refusal_with (suc n)); tank = zero_tank }
 
 unfoldable pub made : TankDesign → Made
 made m = made_of m (make_refusal (fixed_of m) m.initial)
@@ -98,10 +90,10 @@ report_of s = record {
   lines = s.heated.lines;
 }
 
--- a refused step gives the number and the tank and the report handed in
+-- a refused step gives the refusal and the tank and the report handed in
 unfoldable pub answer : StorageTank → Report → End Outcome → Stepped
-answer t r (refused n) = record { number = n; tank = t; report = r }
-answer t r (done s) = record { number = 0; tank = stepped_tank t s; report = report_of s }
+answer t r (refused n) = record { outcome = Err (refusal_with n); tank = t; report = r }
+answer t r (done s) = record { outcome = Ok tt; tank = stepped_tank t s; report = report_of s }
 
 unfoldable pub stepped : StorageTank → Report → Step → Stepped
 stepped t r a = answer t r (work (fixed_in t) (state_in t) a).end

@@ -1,7 +1,8 @@
 -- States demand 3: what the arguments of make and of a list of calls say of what was answered. It cites the history that 01 works on a tank of its own
 -- (tank_model/specs/HistoryDemand.antt), and neither make's nor step's answer; `Promises`, at the end, says what the calls promise. proofs/Demand.antt proves
 -- it of every list.
-use Rattle.std.specs.Prelude.{◌≡◌, ◌↔◌, List, [], ◌∷◌, false, not, cond, ℕ, zero, suc, ◌≤◌, ◌<◌, T, length, get_or, replicate, Float}
+use Rattle.std.specs.Prelude.{◌≡◌, ◌↔◌, List, [], ◌∷◌, false, cond, ℕ, zero, suc, ◌≤◌, ◌<◌, T, length, get_or, replicate, None, Ok, Float}
+use Rattle.refusals.specs.Refusals.{number_in}
 use Rattle.numeric.specs.Double.{zero_f}
 use Rattle.mixing.specs.Limits.{max_layers}
 use Rattle.working_order.specs.Order.{max_heaters}
@@ -43,12 +44,12 @@ pub record AnswersTotals (s : Outcome) (r : Report) : Type 0 where
 
 -- the number answered is that of the work's end, and 0 exactly when the step is accepted
 abbrev pub AnswersNumber : Work → Stepped → Type 0
-AnswersNumber w x = (x.number ≡ number_of w.end) × (T (accepted w.end) ↔ (x.number ≡ 0))
+AnswersNumber w x = (number_in x.outcome ≡ number_of w.end) × (T (accepted w.end) ↔ (number_in x.outcome ≡ 0))
 
 -- ---- of a list of calls
 
 abbrev pub no_answer : Stepped
-no_answer = record { number = 0; tank = zero_tank; report = record { energy = zero_f; used = zero_f; average = zero_f; recoverable = zero_f; lines = [] } }
+no_answer = record { outcome = Ok tt; tank = zero_tank; report = record { energy = zero_f; used = zero_f; average = zero_f; recoverable = zero_f; lines = [] } }
 
 abbrev pub last_tank : StorageTank → List Stepped → StorageTank
 last_tank t [] = t
@@ -81,7 +82,7 @@ pub record NoTank (t : StorageTank) : Type 0 where
   pub ambient : t.ambient ≡ zero_f
   pub timestep : t.timestep ≡ zero_f
   pub temps : t.temps ≡ replicate max_layers zero_f
-  pub fitted : t.fitted ≡ replicate max_heaters (record { rated = zero_f; position = zero_f; has_thermostat = false; thermostat = zero_f })
+  pub fitted : t.fitted ≡ replicate max_heaters (record { rated = zero_f; position = zero_f; thermostat = None })
   pub flags : t.flags ≡ replicate max_heaters false
 
 -- n: what make is refused for, or 0. A refused make gives a tank of zeros
@@ -89,13 +90,11 @@ abbrev pub holding : ℕ → Held → StorageTank
 holding zero x = tank_of x.design x.state
 holding (suc n) x = zero_tank
 
--- the heater y is x as given, an absent thermostat's position zero
+-- the heater y is x as given
 pub record AsGiven (x y : Heater) : Type 0 where
   pub rated : y.rated ≡ x.rated
   pub position : y.position ≡ x.position
-  pub has : y.has_thermostat ≡ x.has_thermostat
-  pub present : T x.has_thermostat → y.thermostat ≡ x.thermostat
-  pub absent : T (not x.has_thermostat) → y.thermostat ≡ zero_f
+  pub thermostat : y.thermostat ≡ x.thermostat
 
 -- an accepted make's tank has at each heater's place what it was given, and zeros past them
 pub record FittedAsGiven (m : TankDesign) (t : StorageTank) : Type 0 where
@@ -116,7 +115,7 @@ pub record Demand3 (m : TankDesign) (calls : List Call) (made : Made) (xs : List
   -- the number answered is that of the work's end, and 0 exactly when the step is accepted
   pub numbers : (i : ℕ) → i < length calls → AnswersNumber (work_at m calls i) (get_or xs i no_answer)
   -- the tanks handed back hold the design, which stays make's, and the state that was worked
-  pub makes : (made.number ≡ design_refusal m) × (made.tank ≡ holding (design_refusal m) (held_at m calls 0))
+  pub makes : (number_in made.outcome ≡ design_refusal m) × (made.tank ≡ holding (design_refusal m) (held_at m calls 0))
   pub fitted : design_refusal m ≡ 0 → FittedAsGiven m made.tank
   pub refused_make : 0 < design_refusal m → NoTank made.tank
   pub carries : (i : ℕ) → i < length calls → (get_or xs i no_answer).tank ≡ holding (design_refusal m) (held_at m calls (suc i))

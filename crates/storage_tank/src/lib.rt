@@ -1,16 +1,21 @@
 // The storage tank: what the calls make and step hand back.
 #![tactic(auto)]
 
+ghost use Rattle.std.specs.Prelude.{◌≡◌};
+ghost use Rattle.storage_tank.specs.Tank.{fixed_in};
+
 pub mod hot_water;
 pub mod make;
 
+use cylinder::Cylinder;
 use mixing::limits::MAX_LAYERS;
-use tank_model::{Heater, HeaterLine};
+use refusals::Refusal;
+use tank_model::{Heater, HeaterLine, TurnNotes};
 use working_order::MAX_HEATERS;
 
 // The tank: its fixed numbers, its layers' temperatures, the bottom first, its heaters as given, and their flags.
 // A count may be any number; what is past it in an array is not looked at.
-#[derive(Clone, Copy)]
+#[derive(Clone, Copy, Default)]
 pub struct StorageTank {
     pub layers: usize,
     pub volume: f64,
@@ -25,8 +30,25 @@ pub struct StorageTank {
     pub flags: [bool; MAX_HEATERS],
 }
 
+impl StorageTank {
+    // The numbers of its cylinder.
+    pub fn cylinder(&self) -> Cylinder
+        ensures { result ≡ (fixed_in self.now).cylinder }
+    {
+        Cylinder {
+            layers: self.layers,
+            volume: self.volume,
+            standby: self.standby,
+            rho: self.rho,
+            cp: self.cp,
+            ambient: self.ambient,
+            timestep: self.timestep,
+        }
+    }
+}
+
 // What a step reports: energy withdrawn (kWh), volume used (litres), average draw-off temperature, recoverable losses (kWh), and each heater's line, as given.
-#[derive(Clone, Copy)]
+#[derive(Clone, Copy, Default)]
 pub struct Report {
     pub energy: f64,
     pub used: f64,
@@ -35,24 +57,24 @@ pub struct Report {
     pub lines: [HeaterLine; MAX_HEATERS],
 }
 
-// What make answers: 0 and the tank, or the number of 01's refusal and a tank of no layers, no heaters and zeros.
+// What make answers: accepted with the tank, or 01's refusal with a tank of no layers, no heaters and zeros.
 #[derive(Clone, Copy)]
 pub struct Made {
-    pub number: u8,
+    pub outcome: Result<(), Refusal>,
     pub tank: StorageTank,
 }
 
-// What a step answers: 0 with the stepped tank and its report, or the number of 01's refusal with the tank and the report handed in.
+// What a step answers: accepted with the stepped tank and its report, or 01's refusal with the tank and the report handed in.
 #[derive(Clone, Copy)]
 pub struct Stepped {
-    pub number: u8,
+    pub outcome: Result<(), Refusal>,
     pub tank: StorageTank,
     pub report: Report,
 }
 
-// What a step answers, and how many heaters had their turn in it.
+// What a step answers, and what its turns noted, refused or not: zeros for the heaters that had none.
 #[derive(Clone, Copy)]
 pub struct NotedStep {
-    pub turns: usize,
     pub stepped: Stepped,
+    pub notes: TurnNotes,
 }

@@ -10,18 +10,19 @@ mod wait;
 
 pub use input::fill;
 pub use output::{put, send};
+use std::error::Error;
+use std::fmt;
 
-// What was read: how many bytes stand at the start of the buffer; failed: a read failed, and standard error says why. Fewer than the buffer holds, and not
-// failed: the input has ended.
-#[derive(Clone, Copy)]
-pub struct Filled {
-    pub count: usize,
-    pub failed: bool,
+// A read or a write failed, and standard error says why: how many bytes came, or were taken, before it.
+#[derive(Clone, Copy, Debug, PartialEq, Eq)]
+pub struct Broken {
+    pub moved: usize,
 }
 
-// What was written: how many bytes were taken, the first of the text; failed: a write failed, and standard error says why. Not failed: all of the text.
-#[derive(Clone, Copy)]
-pub struct Sent {
-    pub count: usize,
-    pub failed: bool,
+impl fmt::Display for Broken {
+    fn fmt<W: fmt::Write>(&self, f: &mut fmt::Formatter<W>) -> fmt::Result {
+        write!(f, "a stream failed after {} bytes", self.moved)
+    }
 }
+
+impl Error for Broken {}

@@ -1,55 +1,45 @@
 // Standard output, written until all of a text is taken.
 ghost use Rattle.std.specs.Prelude.{length};
-ghost use Rattle.std.specs.Io.{WritesAtMost};
 ghost use Rattle.streams.specs.Whole.{Carried};
 
-use crate::Sent;
-use std::io;
+use crate::Broken;
+use crate::wait::Tries;
 use std::time::Clock;
 
-// One write, tried again while it is interrupted or there is no room for now.
-fn write_some(rt: &(impl Print + Clock), text: &[u8]) -> io::Result<usize>
-    ensures { WritesAtMost result text.now }
+// Writes text to standard output, and answers how many bytes were taken: all. It stops at the first write that fails, or takes no byte, of which nothing says
+// why.
+pub fn send(
+    rt: &(impl Print + Eprint + Clock),
+    program: &[u8],
+    text: &[u8],
+) -> Result<usize, Broken>
+    ensures { Carried (length text.now) result }
 {
-    for _ in 0..crate::wait::TRIES {
-        let got = rt.write_some(text);
-        match got {
-            Ok(_) => return got,
+    let mut tries = Tries::all();
+    let mut count = 0;
+    while count < text.len() {
+        match rt.write_some(&text[count..]) {
+            Ok(0) => {
+                crate::say::none_taken(rt, program);
+                return Err(Broken { moved: count });
+            }
+            Ok(taken) => {
+                count += taken;
+                tries = Tries::all();
+            }
             Err(why) => {
-                if !crate::wait::again(rt, &why) {
-                    return got;
+                if !tries.again(rt, &why) {
+                    crate::say::failed(rt, program, "standard output", why);
+                    return Err(Broken { moved: count });
                 }
             }
         }
     }
-    rt.write_some(text)
-}
-
-// Writes text to standard output, and stops at the first write that fails.
-pub fn send(rt: &(impl Print + Eprint + Clock), program: &[u8], text: &[u8]) -> Sent
-    ensures { Carried (length text.now) result }
-{
-    let mut count = 0;
-    while count < text.len() {
-        let got = write_some(rt, &text[count..]);
-        let taken = got.unwrap_or(0);
-        if taken == 0 {
-            crate::say::untaken(rt, program, got);
-            return Sent {
-                count,
-                failed: true,
-            };
-        }
-        count += taken;
-    }
-    Sent {
-        count,
-        failed: false,
-    }
+    Ok(count)
 }
 
 // Whether standard output took all of text; if not, standard error says why.
+// Kept: a plain bool, as it was promised; as a Result it would be `send` again.
 pub fn put(rt: &(impl Print + Eprint + Clock), program: &[u8], text: &[u8]) -> bool {
-    let s = send(rt, program, text);
-    !s.failed
+    send(rt, program, text).is_ok()
 }

@@ -29,13 +29,8 @@ pub fn failed(rt: &impl Eprint, program: &[u8], stream: &str, why: io::Error) {
     let _ = eprintln!(rt; "{name}: {stream}: {words}");
 }
 
-// A write has failed, or has taken no byte, of which nothing says why.
-pub fn untaken(rt: &impl Eprint, program: &[u8], got: io::Result<usize>) {
-    match got {
-        Ok(_) => {
-            let name = program.escape_ascii();
-            let _ = eprintln!(rt; "{name}: standard output: no byte was taken");
-        }
-        Err(why) => failed(rt, program, "standard output", why),
-    }
+// A write has taken no byte, of which nothing says why.
+pub fn none_taken(rt: &impl Eprint, program: &[u8]) {
+    let name = program.escape_ascii();
+    let _ = eprintln!(rt; "{name}: standard output: no byte was taken");
 }

@@ -19,3 +19,5 @@ pub mod ListOnce
 pub mod HistoryDemand
 pub mod EightSplit
 pub mod TopLayer
+pub mod Defaults
+pub mod Numbered

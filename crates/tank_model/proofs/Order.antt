@@ -1,19 +1,21 @@
 -- Proves that the order of work has each heater once and nothing else, each worked before the next (01, Tank).
-use mathlib.Core.Path.{◌≡◌, sym, subst}
+use mathlib.Core.Path.{◌≡◌, sym, subst, ap, ◌∙◌}
 use mathlib.Core.Logic.{◌⊎◌, inl, inr, ◌≢◌}
 use mathlib.Core.List.{List, [], ◌∷◌}
 use mathlib.Core.Bool.{Bool, true, false, not, cond}
 use Prim.Native.Nat.{ℕ, zero, suc, ◌+◌, ◌<◌, ◌≤◌}
 use native.Mathlib.Omega.{arith}
 use lib.Dec.{T}
-use lib.ListN.{length, get_or}
+use lib.ListN.{length, get_or, take}
+use lib.Seq.{take_at}
 use lib.Ieee.{le}
 use Rattle.numeric.specs.Tabulate.{tabulate, length_tabulate, at_tabulate}
 use Rattle.working_order.specs.Order.{indices, insert, insertion_sort, comes_before, rising_order}
+use Rattle.working_order.proofs.Entries.{rising_length}
 use Rattle.tank_model.specs.declared.Heater.{Heater}
 use Rattle.tank_model.specs.declared.TankDesign.{TankDesign}
-use Rattle.tank_model.specs.Fixed.{Fixed, placed, no_heater, not_placed, placed_heaters, heater_of, fixed_of}
-use Rattle.tank_model.specs.Order.{working_order}
+use Rattle.tank_model.specs.Fixed.{Placed, Fixed, placed, no_heater, not_placed, placed_heaters, heater_of, fixed_of}
+use Rattle.tank_model.specs.Order.{working_order, InOrder}
 use Rattle.tank_model.specs.Members.{All, Distinct, ChainFrom, Chain}
 use Rattle.tank_model.specs.Arguments.{position_of, WorkedBefore, InWorkingOrder}
 use Rattle.tank_model.proofs.Members.{by_cond, In, numbers_above, numbers_distinct, indices_below, in_indices}
@@ -148,3 +150,12 @@ in_working_order m = rw (heaters_many m) (record {
     said : (x y : ℕ) → x < m.heaters → y < m.heaters → Ahead before x y → WorkedBefore m x y
     said x y k l (inl p) = inl (p.0, subst T (compared x y k l) p.1)
     said x y k l (inr p) = inr (p.0, subst (λ (b : Bool). T (not b)) (compared y x l k) p.1)
+
+-- ---- the order of work that stands in an array
+
+pub first_in_order : (n : ℕ) (fitted : List Heater) (order : List ℕ) (f : Fixed) → InOrder n fitted order → f.heaters ≡ placed_heaters n fitted → take n order ≡ working_order f
+unfolding working_order
+first_in_order n fitted order f o e =
+    let many : length f.heaters ≡ n = ap (λ (hs : List Placed). length hs) e ∙ many_placed n fitted in
+    let long = rising_length (λ (h : ℕ). (heater_of f h).position) (length f.heaters) ∙ many in
+    rw (o f e) (take_at (working_order f) _ n long)

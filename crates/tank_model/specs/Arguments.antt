@@ -1,6 +1,6 @@
 -- States how demand 3 reads the arguments of make and of a step, in 01's words and none of the work's (01, Tank; Switch-on; Supply and switch-off; Turn):
 -- make's numbers, a heater's layers and rated power, the order of work, and what a thermostat layer is to the set points.
-use Rattle.std.specs.Prelude.{◌≡◌, ◌⊎◌, List, not, cond, ℕ, ◌<◌, T, get_or, replicate, Float}
+use Rattle.std.specs.Prelude.{◌≡◌, ◌⊎◌, List, not, ℕ, ◌<◌, T, unwrap_or, get_or, replicate, Float}
 use Rattle.std.specs.Float.{nan}
 use Rattle.std.specs.Float.Ieee.{lt, le}
 use Rattle.numeric.specs.Double.{◌⊛◌, ◌⊘◌, whole}
@@ -44,7 +44,7 @@ position_of m h = (get_or m.fitted h no_heater).position
 
 -- a thermostat without a position sits in the heater's layer
 abbrev pub thermostat_of : TankDesign → ℕ → Float
-thermostat_of m h = cond (get_or m.fitted h no_heater).has_thermostat (get_or m.fitted h no_heater).thermostat (position_of m h)
+thermostat_of m h = unwrap_or (get_or m.fitted h no_heater).thermostat (position_of m h)
 
 -- position × layers cut to a whole number; position 1 is the top layer (02, R-2; `heater_in_the_top`, proofs/TopLayer.antt)
 abbrev pub heater_layer : TankDesign → ℕ → ℕ

@@ -1,5 +1,5 @@
 -- States what make fixes, what a step changes, and how what is fixed is read from make's arguments (01, Tank).
-use Rattle.std.specs.Prelude.{ℕ, Bool, false, cond, List, get_or, Float}
+use Rattle.std.specs.Prelude.{ℕ, Bool, None, List, unwrap_or, get_or, Float}
 use Rattle.std.specs.Float.{nan}
 use Rattle.numeric.specs.Double.{zero_f}
 use Rattle.numeric.specs.Tabulate.{tabulate}
@@ -18,14 +18,14 @@ pub record Placed : Type 0 where
 
 -- a thermostat without a position sits with its heater
 abbrev pub placed : Heater → Placed
-placed x = record { rated = x.rated; position = x.position; thermostat = cond x.has_thermostat x.thermostat x.position }
+placed x = record { rated = x.rated; position = x.position; thermostat = unwrap_or x.thermostat x.position }
 
 abbrev pub no_heater : Heater
-no_heater = record { rated = nan; position = nan; has_thermostat = false; thermostat = nan }
+no_heater = record { rated = nan; position = nan; thermostat = None }
 
 -- a heater of zeros, in a place that is not used
 abbrev pub zero_heater : Heater
-zero_heater = record { rated = zero_f; position = zero_f; has_thermostat = false; thermostat = zero_f }
+zero_heater = record { rated = zero_f; position = zero_f; thermostat = None }
 
 abbrev pub not_placed : Placed
 not_placed = record { rated = nan; position = nan; thermostat = nan }

@@ -1,4 +1,4 @@
--- The smallest set points at which a near wrong check answers another number (02, R-1), each by computation. A check that is only written otherwise passes here;
+-- The smallest set points at which a near wrong check answers another number (02, R-1), by computation. A check that is only written otherwise passes here;
 -- one that is wrong does not, whatever its proof looks like.
 use Rattle.std.specs.Prelude.{ℕ, ◌≡◌, refl, false, List, [], ◌∷◌, map, length, Float}
 use Rattle.std.specs.Float.Ieee as I

@@ -1,20 +1,68 @@
 // What a tank is made from, what a step asks of it, and what it reports of a heater.
 // The work of a step, and of a list of calls, is defined over these (`specs/`).
-// A count may be any number; what is past it in an array is not looked at.
+// A count may be any number; what is past it in an array is not looked at. Kept: nothing is on a heap, so counts stand beside arrays.
 #![tactic(auto)]
+
+ghost use Rattle.std.specs.Prelude.{◌≡◌, ℕ, ◌≤◌, ◌<◌, get_or};
+ghost use Rattle.mixing.specs.Limits.{max_layers};
+ghost use Rattle.working_order.specs.Order.{max_heaters, position_in};
+ghost use Rattle.tank_model.specs.Fixed.{placed, no_heater, immersed, fixed_of};
+ghost use Rattle.tank_model.specs.Order.{InOrder};
 
 use cylinder::Cylinder;
 use draw_events::event::MAX_EVENTS;
+use immersion_heater::turn::Immersion;
 use set_points::SetPoints;
 use working_order::MAX_HEATERS;
 
 // An immersion heater: its rated power (kW), its position, from 0 at the bottom of the tank to 1 in its lid, and its thermostat's, where it has one of its own.
-#[derive(Clone, Copy)]
+#[derive(Clone, Copy, Default)]
 pub struct Heater {
     pub rated: f64,
     pub position: f64,
-    pub has_thermostat: bool,
-    pub thermostat: f64,
+    pub thermostat: Option<f64>,
+}
+
+impl Heater {
+    // Where the thermostat sits: with its heater, if it has no position of its own.
+    pub fn thermostat_position(self) -> f64
+        ensures { result ≡ (placed self).thermostat }
+    {
+        self.thermostat.unwrap_or(self.position)
+    }
+
+    // The heater with the layers that a step finds for it in a tank of n.
+    pub fn immersed(self, n: usize) -> Immersion
+        requires { n ≤ max_layers }
+        ensures finds { result ≡ immersed n (placed self) }
+        ensures below { 1 ≤ n → (result.layer < n) × (result.thermostat < n) }
+    {
+        Immersion {
+            rated: self.rated,
+            layer: numeric::whole::layer_of(self.position, n),
+            thermostat: numeric::whole::layer_of(self.thermostat_position(), n),
+        }
+    }
+}
+
+// Kept: a loop, since `std::array::from_fn` was tried, and its contract does not tell what its closure finds behind a reference.
+fn positions(fitted: &[Heater; MAX_HEATERS]) -> [f64; MAX_HEATERS]
+    ensures { (h : ℕ) → h < max_heaters → position_in result h ≡ (get_or fitted.now h no_heater).position }
+{
+    let mut positions = [0.0; MAX_HEATERS];
+    for (h, x) in fitted.iter().enumerate() {
+        positions[h] = x.position;
+    }
+    positions
+}
+
+// The places of the first n heaters, in the order in which a step works them, and zeros past them.
+pub fn order_of_work(n: usize, fitted: &[Heater; MAX_HEATERS]) -> [usize; MAX_HEATERS]
+    requires { n ≤ max_heaters }
+    ensures order { InOrder n fitted.now result }
+    ensures below { (k : ℕ) → k < n → get_or result k 0 < n }
+{
+    working_order::working_order(n, &positions(fitted))
 }
 
 // What a tank is made from. Volume is in litres, `standby` in kWh per 24 h, the density `rho` in kg per litre, the specific heat `cp` in kWh/kg.K,
@@ -31,6 +79,23 @@ pub struct TankDesign {
     pub timestep: f64,
     pub heaters: usize,
     pub fitted: [Heater; MAX_HEATERS],
+}
+
+impl TankDesign {
+    // The numbers of its cylinder. Kept: 01 prescribes these fields in the record itself, so they are put together here, and for a tank in `storage_tank`.
+    pub fn cylinder(&self) -> Cylinder
+        ensures { result ≡ (fixed_of self.now).cylinder }
+    {
+        Cylinder {
+            layers: self.layers,
+            volume: self.volume,
+            standby: self.standby,
+            rho: self.rho,
+            cp: self.cp,
+            ambient: self.ambient,
+            timestep: self.timestep,
+        }
+    }
 }
 
 // A step's set points for one heater.
@@ -50,7 +115,7 @@ pub struct Step {
 }
 
 // What a step reports of a heater: its flag, its adjusted input, energy supplied and losses (kWh), and the rounds of its mixing.
-#[derive(Clone, Copy)]
+#[derive(Clone, Copy, Default)]
 pub struct HeaterLine {
     pub flag: bool,
     pub adjusted: f64,
@@ -59,12 +124,18 @@ pub struct HeaterLine {
     pub rounds: usize,
 }
 
-// The numbers of a step whose arrays are lent: the cylinder's, how many heaters it has, and the step's own beside its volumes and set points.
-#[derive(Clone, Copy)]
-pub struct StepNumbers {
-    pub cylinder: Cylinder,
-    pub heaters: usize,
-    pub feed: f64,
-    pub events: usize,
-    pub entries: usize,
+// What the history tells of a heater's turn besides its line: its thermostat layer where the turn began and where it ended, and whether it ran on.
+#[derive(Clone, Copy, Default)]
+pub struct TurnCourse {
+    pub start: f64,
+    pub finish: f64,
+    pub ran: bool,
+}
+
+// What a step's turns note as they go, also where the step is refused: each heater's line and course in its place, as given, and how many had their turn.
+#[derive(Clone, Copy, Default)]
+pub struct TurnNotes {
+    pub lines: [HeaterLine; MAX_HEATERS],
+    pub courses: [TurnCourse; MAX_HEATERS],
+    pub worked: usize,
 }

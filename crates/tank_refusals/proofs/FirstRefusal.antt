@@ -1,15 +1,20 @@
--- Proves what the functions that go through the checks cite (01, The four calls): the checks of heaters that stand in an array, and what a step that passes
--- says of its counts.
+-- Proves what the functions that go through the checks cite (01, The four calls): one check after the other, and what a step that passes says of
+-- its counts.
 use mathlib.Core.Path.{◌≡◌, refl, sym, ap, ◌∙◌}
-use mathlib.Core.List.{List, ◌∷◌, ◌++◌}
+use mathlib.Core.List.{List, [], ◌∷◌, ◌++◌}
 use mathlib.Core.Bool.{Bool, true, false, ◌&&◌}
 use Prim.Native.Nat.{ℕ, ◌+◌, ◌<◌, ◌≤◌}
-use native.Mathlib.Nat.{add-zero}
 use native.Mathlib.Omega.{arith}
-use lib.Dec.{leb, eqb, leb→le, eqb→eq, lit<}
-use lib.ListN.{length, get_or}
+use lib.Dec.{leb, eqb, leb→le, lit<}
+use lib.ListN.{length, get_or, take}
+use Rattle.std.proofs.lemmas.List.{get_or-take, length-take-le}
+use Rattle.numeric.specs.Tabulate.{tabulate_same}
 use lib.Ieee.Scale.{finite}
 use lib.Ieee.Fits.{and_l, and_r}
+use Rattle.refusals.specs.declared.Refusal.{Refusal}
+use Rattle.refusals.specs.Refusals.{number_of, number_in}
+use Rattle.std.specs.Prelude.{Result, Ok, Err, OnOk}
+use Rattle.refusals.proofs.Numbers.{number-not_0}
 use Rattle.mixing.specs.Limits.{max_layers}
 use Rattle.cylinder.specs.declared.Cylinder.{Cylinder}
 use Rattle.cylinder.specs.Layers.{all_finite}
@@ -18,39 +23,74 @@ use Rattle.working_order.specs.Order.{max_heaters}
 use Rattle.tank_model.specs.declared.Heater.{Heater}
 use Rattle.tank_model.specs.declared.Step.{Step}
 use Rattle.tank_model.specs.Fixed.{placed, no_heater, not_placed, placed_heaters, Fixed, State, fixed_by}
-use Rattle.tank_model.specs.FirstRefusal.{first_refusal, first_among, each_passes, first_list, second_list, both_pass}
+use Rattle.tank_model.specs.FirstRefusal.{first_refusal, first_among, decides, goes_on, last_decides, Searched, searched_turn, searched_stop, searched_end, each_passes, first_list, second_list, both_pass}
 use Rattle.tank_model.specs.Checks.{unless, not_negative, heaters_check, heater_check, places_check, counts_check, tank_checks, step_checks, step_refusal}
 use Rattle.tank_model.proofs.Order.{many_placed, placed_at}
 use Rattle.tank_model.proofs.Passes.{unless_passes, tank_passes}
 
+-- ---- one check after the other
+
+-- it refuses, and decides
+pub refused : (r : Refusal) (n : ℕ) (ns : List ℕ) → number_of r ≡ n → number_of r ≡ first_refusal (n ∷ ns)
+refused r n ns e = decides (number_of r) n ns e (number-not_0 r)
+
+-- it passes, and the rest decides
+pub passed : (n k : ℕ) (ns : List ℕ) → 0 ≡ n → k ≡ first_refusal ns → k ≡ first_refusal (n ∷ ns)
+passed n k ns e f = goes_on 0 n k ns e refl f
+
+-- what holds where an answer is accepted
+pub on_ok : (r : Result (Unit {0}) Refusal) (P : Type 0) → (number_in r ≡ 0 → P) → OnOk r P
+on_ok (Ok x) P f = f refl
+on_ok (Err e) P f = tt
+
+-- it is the last
+pub last : (n k : ℕ) → k ≡ n → k ≡ first_refusal (n ∷ [])
+last n k e = last_decides k n e
+
+pub ruleset one_by_one = (refused, passed, last)
+
+-- ---- a check of the first n items of a list, one after the other: `few` says that there are so many
+
+module _ {A : Type 0} (check : A → ℕ) (d : A) (xs : List A) (n : ℕ) (few : n ≤ length xs) where
+  -- what the check of the item i answers
+  abbrev pub number_at : ℕ → ℕ
+  number_at i = check (get_or xs i d)
+
+  taken : length (take n xs) ≡ n
+  taken = length-take-le n xs few
+
+  -- the item i refuses, before which all pass
+  pub item_refuses : (i : ℕ) (r : Refusal) → i < length (take n xs) → number_of r ≡ check (get_or (take n xs) i d) → Searched number_at n i
+      → number_of r ≡ first_among number_at n
+  item_refuses i r l e s =
+      let l' : i < n = omega (arith, taken) in
+      searched_stop number_at n i (number_of r) l' (rw get_or-take at e) (number-not_0 r) s
+
+  pub item_passes : (i : ℕ) → i < length (take n xs) → 0 ≡ check (get_or (take n xs) i d) → Searched number_at n i → Searched number_at n (i + 1)
+  item_passes i l e s =
+      let l' : i < n = omega (arith, taken) in
+      searched_turn number_at n i 0 l' (rw get_or-take at e) refl s
+
+  pub items_pass : (i : ℕ) → length (take n xs) ≤ i → Searched number_at n i → 0 ≡ first_among number_at n
+  items_pass i l s = searched_end number_at n i (omega (arith, taken)) s
+
 -- ---- heaters in an array
 
--- the check of the heater given as h, of the first n
-abbrev pub check_at : ℕ → List Heater → ℕ → ℕ
-check_at n fitted h = heater_check (get_or (placed_heaters n fitted) h not_placed)
+-- the check of the heater given as h
+abbrev pub check_at : List Heater → ℕ → ℕ
+check_at fitted h = heater_check (placed (get_or fitted h no_heater))
 
-pub check_at_lem : (n : ℕ) (fitted : List Heater) (h k : ℕ) (x : Heater) → h < n → x ≡ get_or fitted h no_heater → k ≡ heater_check (placed x) → k ≡ check_at n fitted h
-check_at_lem n fitted h k x l e f = f ∙ ap (λ (y : Heater). heater_check (placed y)) e ∙ sym (ap heater_check (placed_at n fitted h l))
-
-pub places_are : (n : ℕ) (fitted : List Heater) (r : ℕ) → r ≡ first_among (check_at n fitted) n → r ≡ places_check (placed_heaters n fitted)
-places_are n fitted r e = rw (many_placed n fitted) e
-
-pub heaters_are : (n : ℕ) (fitted : List Heater) (k : ℕ) → k ≡ heaters_check (n + 0) → k ≡ heaters_check (length (placed_heaters n fitted))
-heaters_are n fitted k e = rw (many_placed n fitted) (rw add-zero at e)
-
-pub counts_are : (n events entries : ℕ) (f : Fixed) (k : ℕ) → length f.heaters ≡ n → k ≡ counts_check n events entries → k ≡ counts_check (length f.heaters) events entries
-counts_are n events entries f k l e = rw l e
+pub places_are : (n : ℕ) (fitted : List Heater) → first_among (check_at fitted) n ≡ places_check (placed_heaters n fitted)
+places_are n fitted =
+    rw (many_placed n fitted)
+    (ap first_refusal (tabulate_same (check_at fitted) (λ (h : ℕ). heater_check (get_or (placed_heaters n fitted) h not_placed)) n 0
+    (λ h l u. ap heater_check (sym (placed_at n fitted h (omega arith))))))
 
 pub few_heaters : (n k : ℕ) → k ≡ heaters_check n → k ≡ 0 → n ≤ max_heaters
 few_heaters n k e z = leb→le n max_heaters (unless_passes (leb n max_heaters) 2 (lit< tt) (sym e ∙ z))
 
 pub few_events : (n events entries k : ℕ) → k ≡ counts_check n events entries → k ≡ 0 → events ≤ max_events
 few_events n events entries k e z = leb→le events max_events (and_l (leb events max_events) (eqb entries n) (unless_passes (leb events max_events && eqb entries n) 6 (lit< tt) (sym e ∙ z)))
-
-pub all_entries : (n events entries k : ℕ) → k ≡ counts_check n events entries → k ≡ 0 → n ≤ max_heaters → entries ≤ max_heaters
-all_entries n events entries k e z l =
-    let s = eqb→eq entries n (and_r (leb events max_events) (eqb entries n) (unless_passes (leb events max_events && eqb entries n) 6 (lit< tt) (sym e ∙ z))) in
-    omega (arith, s)
 
 -- ---- a step of a tank whose heaters stand in an array
 

@@ -1,254 +1,177 @@
-// The checks of make and of a step, 1 to 7, and 12, 8 and 13 of set points, one function each, by its definition's name: it answers its number, and 0 where it
-// passes. A check of several places answers the first number that is not 0.
-ghost use Rattle.std.specs.Prelude.{◌≡◌, ◌+◌, ◌≤◌};
+// The checks of make and of a step, 1 to 7, and 12, 8 and 13 of set points, one function each, by its definition's name: it refuses by its number, or passes.
+// A check of several places refuses for the first that does not pass.
+ghost use Rattle.std.specs.Prelude.{◌≡◌, ◌&&◌, ◌+◌, ◌≤◌};
+ghost use Rattle.refusals.specs.Refusals.{number_of, number_in};
 ghost use Rattle.draw_events.specs.Lent.{max_events};
 ghost use Rattle.working_order.specs.Order.{max_heaters};
 ghost use Rattle.tank_model.specs.Fixed.{placed, placed_heaters};
-ghost use Rattle.tank_model.specs.Checks.{not_negative, is_position};
+ghost use Rattle.tank_model.specs.Checks.{unless, not_negative, is_position};
 ghost use Rattle.tank_model.specs.Checks.{layers_check, heaters_check, numbers_check, temperatures_check, heater_check, places_check};
 ghost use Rattle.tank_model.specs.Checks.{counts_check, feed_check, volume_check, volumes_check, draws_check, points_check, settings_check};
-ghost use Rattle.tank_arrays.specs.Arrays.{fitted_in, settings_in};
 
 use cylinder::Cylinder;
 use draw_events::event::MAX_EVENTS;
 use mixing::limits::MAX_LAYERS;
+use numeric::compare::{is_finite, is_finite_above_zero};
+use refusals::Refusal;
 use set_points::SetPoints;
-use tank_arrays::arrays::{THREE_EACH, TWO_EACH};
-use tank_model::Heater;
+use tank_model::{Heater, Setting};
 use working_order::MAX_HEATERS;
+
+fn unless(passes: bool, refusal: Refusal) -> Result<(), Refusal>
+    ensures { number_in result ≡ unless passes (number_of refusal) }
+{
+    if passes { Ok(()) } else { Err(refusal) }
+}
 
 // Finite and not below zero: -0.0 is a number like 0.0.
 fn is_not_negative(x: f64) -> bool
     ensures { result ≡ not_negative x }
 {
-    if numeric::compare::is_finite(x) {
-        !(x < 0.0)
-    } else {
-        false
-    }
+    is_finite(x) && !(x < 0.0)
 }
 
 // At least 0 and at most 1: exactly 1 is the top layer.
 fn is_position(x: f64) -> bool
     ensures { result ≡ is_position x }
 {
-    if 0.0 <= x { x <= 1.0 } else { false }
+    0.0 <= x && x <= 1.0
 }
 
 // ---- of a tank, or of what one is made from
 
 // 1.
-pub fn layers_check(c: Cylinder) -> u8
-    ensures { result ≡ layers_check c }
+pub fn layers_check(c: Cylinder) -> Result<(), Refusal>
+    ensures { number_in result ≡ layers_check c }
 {
-    if c.layers < 1 {
-        return 1;
-    }
-    if c.layers > MAX_LAYERS {
-        return 1;
-    }
-    0
+    unless(1 <= c.layers && c.layers <= MAX_LAYERS, Refusal::LayerCount)
 }
 
 // 2: of n heaters, and so many more that are to come.
-pub fn heaters_check(n: usize, more: usize) -> u8
+pub fn heaters_check(n: usize, more: usize) -> Result<(), Refusal>
     requires { more ≤ max_heaters }
-    ensures { result ≡ heaters_check (n + more) }
+    ensures { number_in result ≡ heaters_check (n + more) }
 {
-    if n > MAX_HEATERS {
-        return 2;
-    }
-    if n + more > MAX_HEATERS {
-        return 2;
-    }
-    0
+    unless(
+        n <= MAX_HEATERS && n + more <= MAX_HEATERS,
+        Refusal::HeaterCount,
+    )
 }
 
 // 3: volume, density, specific heat and step length.
-pub fn numbers_check(c: Cylinder) -> u8
-    ensures { result ≡ numbers_check c }
+pub fn numbers_check(c: Cylinder) -> Result<(), Refusal>
+    ensures { number_in result ≡ numbers_check c }
 {
-    if !numeric::compare::is_finite_above_zero(c.volume) {
-        return 3;
-    }
-    if !numeric::compare::is_finite_above_zero(c.rho) {
-        return 3;
-    }
-    if !numeric::compare::is_finite_above_zero(c.cp) {
-        return 3;
-    }
-    if numeric::compare::is_finite_above_zero(c.timestep) {
-        0
-    } else {
-        3
-    }
+    unless(
+        is_finite_above_zero(c.volume)
+            && is_finite_above_zero(c.rho)
+            && is_finite_above_zero(c.cp)
+            && is_finite_above_zero(c.timestep),
+        Refusal::NotAboveZero,
+    )
 }
 
 // 4, where the initial temperature, or each stored layer, is finite or not.
-pub fn temperatures_check(c: Cylinder, temps: bool) -> u8
-    ensures { result ≡ temperatures_check c temps }
+pub fn temperatures_check(c: Cylinder, temps: bool) -> Result<(), Refusal>
+    ensures { number_in result ≡ temperatures_check c temps }
 {
-    if !is_not_negative(c.standby) {
-        return 4;
-    }
-    if !numeric::compare::is_finite(c.ambient) {
-        return 4;
-    }
-    if temps { 0 } else { 4 }
+    unless(
+        is_not_negative(c.standby) && is_finite(c.ambient) && temps,
+        Refusal::Temperature,
+    )
 }
 
 // 5, of one heater.
-pub fn heater_check(x: Heater) -> u8
-    ensures { result ≡ heater_check (placed x) }
+pub fn heater_check(x: Heater) -> Result<(), Refusal>
+    ensures { number_in result ≡ heater_check (placed x) }
 {
-    if !is_not_negative(x.rated) {
-        return 5;
-    }
-    if !is_position(x.position) {
-        return 5;
-    }
-    if is_position(tank_arrays::heaters::thermostat_position(x)) {
-        0
-    } else {
-        5
-    }
+    unless(
+        is_not_negative(x.rated) && is_position(x.position) && is_position(x.thermostat_position()),
+        Refusal::Heater,
+    )
 }
 
 // 5, of the first n heaters.
-pub fn places_check(n: usize, heaters: &[f64; THREE_EACH], thermostats: &[bool; MAX_HEATERS]) -> u8
+pub fn places_check(n: usize, fitted: &[Heater; MAX_HEATERS]) -> Result<(), Refusal>
     requires { n ≤ max_heaters }
-    ensures { result ≡ places_check (placed_heaters n (fitted_in heaters.now thermostats.now)) }
+    ensures { number_in result ≡ places_check (placed_heaters n fitted.now) }
 {
-    let mut h = 0;
-    while h < n {
-        let x = tank_arrays::arrays::heater_at(heaters, thermostats, h);
-        let k = heater_check(x);
-        if k != 0 {
-            return k;
-        }
-        h += 1;
+    for x in &fitted[..n] {
+        heater_check(*x)?;
     }
-    0
+    Ok(())
 }
 
 // ---- of a step's arguments
 
 // 6, of a tank of n heaters.
-pub fn counts_check(n: usize, events: usize, entries: usize) -> u8
-    ensures { result ≡ counts_check n events entries }
+pub fn counts_check(n: usize, events: usize, entries: usize) -> Result<(), Refusal>
+    ensures { number_in result ≡ counts_check n events entries }
 {
-    if events > MAX_EVENTS {
-        return 6;
-    }
-    if entries != n {
-        return 6;
-    }
-    0
+    unless(events <= MAX_EVENTS && entries == n, Refusal::StepCounts)
 }
 
 // 7, of the feed temperature.
-pub fn feed_check(feed: f64) -> u8
-    ensures { result ≡ feed_check feed }
+pub fn feed_check(feed: f64) -> Result<(), Refusal>
+    ensures { number_in result ≡ feed_check feed }
 {
-    if numeric::compare::is_finite(feed) {
-        0
-    } else {
-        7
-    }
+    unless(is_finite(feed), Refusal::Draw)
 }
 
 // 7, of one volume.
-pub fn volume_check(v: f64) -> u8
-    ensures { result ≡ volume_check v }
+pub fn volume_check(v: f64) -> Result<(), Refusal>
+    ensures { number_in result ≡ volume_check v }
 {
-    if is_not_negative(v) { 0 } else { 7 }
+    unless(is_not_negative(v), Refusal::Draw)
 }
 
 // 7, of the first n volumes.
-fn volumes_check(n: usize, volumes: &[f64; MAX_EVENTS]) -> u8
+fn volumes_check(n: usize, volumes: &[f64; MAX_EVENTS]) -> Result<(), Refusal>
     requires { n ≤ max_events }
-    ensures { result ≡ volumes_check n volumes.now }
+    ensures { number_in result ≡ volumes_check n volumes.now }
 {
-    let mut i = 0;
-    while i < n {
-        let k = volume_check(volumes[i]);
-        if k != 0 {
-            return k;
-        }
-        i += 1;
+    for v in &volumes[..n] {
+        volume_check(*v)?;
     }
-    0
+    Ok(())
 }
 
 // 7.
-pub fn draws_check(feed: f64, n: usize, volumes: &[f64; MAX_EVENTS]) -> u8
+#[tactic(auto, using(crate::proofs::FirstRefusal::one_by_one))]
+pub fn draws_check(feed: f64, n: usize, volumes: &[f64; MAX_EVENTS]) -> Result<(), Refusal>
     requires { n ≤ max_events }
-    ensures { result ≡ draws_check feed n volumes.now }
+    ensures { number_in result ≡ draws_check feed n volumes.now }
 {
-    let k = feed_check(feed);
-    if k != 0 {
-        return k;
-    }
+    feed_check(feed)?;
     volumes_check(n, volumes)
 }
 
 // Of one heater's set points: 12 where a present one is not finite; else 8 where the lower one comes alone, and 13 where it is greater than the upper.
-pub fn points_check(p: SetPoints) -> u8
-    ensures { result ≡ points_check p }
+#[tactic(auto, unfolding(tank_model::specs::Checks::points_check))]
+pub fn points_check(p: SetPoints) -> Result<(), Refusal>
+    ensures { number_in result ≡ points_check p }
 {
     match p {
-        SetPoints::Neither => 0,
-        SetPoints::Lower(l) => lower_check(l),
-        SetPoints::Upper(u) => upper_check(u),
-        SetPoints::Both(l, u) => both_check(l, u),
+        SetPoints::Neither => Ok(()),
+        SetPoints::Lower(l) => {
+            unless(is_finite(l), Refusal::SetPointNotFinite)?;
+            Err(Refusal::LowerAlone)
+        }
+        SetPoints::Upper(u) => unless(is_finite(u), Refusal::SetPointNotFinite),
+        SetPoints::Both(l, u) => {
+            unless(is_finite(l) && is_finite(u), Refusal::SetPointNotFinite)?;
+            unless(!(l > u), Refusal::LowerAboveUpper)
+        }
     }
-}
-
-fn lower_check(l: f64) -> u8
-    ensures { result ≡ points_check (SetPoints.Lower l) }
-{
-    if numeric::compare::is_finite(l) {
-        8
-    } else {
-        12
-    }
-}
-
-fn upper_check(u: f64) -> u8
-    ensures { result ≡ points_check (SetPoints.Upper u) }
-{
-    if numeric::compare::is_finite(u) {
-        0
-    } else {
-        12
-    }
-}
-
-fn both_check(l: f64, u: f64) -> u8
-    ensures { result ≡ points_check (SetPoints.Both l u) }
-{
-    if !numeric::compare::is_finite(l) {
-        return 12;
-    }
-    if !numeric::compare::is_finite(u) {
-        return 12;
-    }
-    if l > u { 13 } else { 0 }
 }
 
 // 12, 8 or 13, of the first n heaters' set points: the first faulty heater, as given, decides.
-pub fn settings_check(n: usize, present: &[bool; TWO_EACH], points: &[f64; TWO_EACH]) -> u8
+pub fn settings_check(n: usize, settings: &[Setting; MAX_HEATERS]) -> Result<(), Refusal>
     requires { n ≤ max_heaters }
-    ensures { result ≡ settings_check n (settings_in present.now points.now) }
+    ensures { number_in result ≡ settings_check n settings.now }
 {
-    let mut h = 0;
-    while h < n {
-        let p = tank_arrays::arrays::points_at(present, points, h);
-        let k = points_check(p);
-        if k != 0 {
-            return k;
-        }
-        h += 1;
+    for x in &settings[..n] {
+        points_check(x.points)?;
     }
-    0
+    Ok(())
 }

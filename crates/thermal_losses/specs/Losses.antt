@@ -12,8 +12,18 @@ use Rattle.numeric.specs.Sum2.{sum2}
 use Rattle.cylinder.specs.declared.Cylinder.{Cylinder}
 use Rattle.cylinder.specs.Layers.{heat_capacity}
 use Rattle.set_points.specs.declared.SetPoints.{SetPoints}
+use Rattle.layer_losses.specs.declared.Layer.{Layer}
 use Rattle.layer_losses.specs.Loss.{clearly_above, over_upper, loss, limited_temp, surplus_term}
 use Rattle.thermal_losses.specs.declared.LossesAnswer.{LossesAnswer}
+
+-- the layer k, as the code takes it
+abbrev pub layer_of : List Float → List Float → List Float → List Float → ℕ → Layer
+layer_of vol before mixed charged k = record {
+  volume = get_or vol k nan;
+  before = get_or before k nan;
+  mixed = get_or mixed k nan;
+  charged = get_or charged k nan;
+}
 
 module _ (c : Cylinder) (vol : List Float) (p : SetPoints) (before mixed charged : List Float) where
   -- the layer k is warmed if it is above its temperature before heating and not wide-close to it

@@ -1,6 +1,6 @@
 -- States what a heater is worked before, and the rising order of positions, ties in the given order (01, Tank): an insertion sort of the heaters' numbers. How
 -- many heaters there can be.
-use Rattle.std.specs.Prelude.{ℕ, ◌+◌, ◌*◌, ◌≤◌, ◌<◌, Bool, cond, List, [], ◌∷◌, ◌++◌, get_or, take, drop, Float}
+use Rattle.std.specs.Prelude.{ℕ, ◌+◌, ◌≤◌, ◌<◌, Bool, cond, List, [], ◌∷◌, ◌++◌, get_or, take, drop, Float}
 use Rattle.std.proofs.Math.Seq.{slice}
 use Rattle.std.specs.Float.{nan}
 use Rattle.std.specs.Float.Ieee.{le}
@@ -41,10 +41,7 @@ NumbersFrom i n order = (k : ℕ) → i ≤ k → k < n → get_or order k 0 < n
 abbrev pub with_heater : (ℕ → ℕ → Bool) → ℕ → ℕ → List ℕ → List ℕ
 with_heater before n x order = take x order ++ (insert before x (slice (x + 1) n order) ++ drop n order)
 
--- ---- heaters in a plain array: a number for each heater, three of them one after the other (`THREE_EACH` of the code), the positions second
-
-abbrev pub three_each : ℕ
-three_each = 3 * max_heaters
+-- ---- the positions in a plain array
 
 abbrev pub position_in : List Float → ℕ → Float
-position_in heaters h = get_or heaters (max_heaters + h) nan
+position_in positions h = get_or positions h nan

@@ -1,21 +1,20 @@
 -- `heat_turns` meets its contract (01, Step): the turns in the order of work.
-use mathlib.Core.Path.{sym, ◌∙◌}
-use native.Mathlib.Omega.{arith}
-use Rattle.working_order.proofs.Entries.{first_entries, entry}
-use Rattle.tank_arrays.specs.Arrays.{fitted_in, settings_in}
-use Rattle.tank_arrays.proofs.WorkingOrder.{order_lent}
-use Rattle.heater_turns.specs.Lent.{points_in}
-use Rattle.heater_turns.proofs.TurnLoop.{in_order, same_order}
-use borrow.Author.Rules.{rules}
+use Rattle.std.proofs.Common.{ℕ, ◌<◌, List, refl, sym, ap, ◌∙◌, arith}
+use Rattle.std.proofs.lemmas.List.{get_or-take, length-take-le}
+use Rattle.tank_model.proofs.Order.{first_in_order}
+use Rattle.heater_turns.specs.Lent.{fixed_lent, heating_in, uncounted}
+use Rattle.heater_turns.proofs.TurnLoop.{turns_from}
 use Rattle.heater_turns.proofs.heat_turns.Goals as goal
 
 pub heat_in_order-requires : goal.heat_in_order-requires
-heat_in_order-requires c = (c.requires.0, record { places = search rules; below = λ k l. entry _ _ _ c.working_order-order.ensures k l }, c.requires.1)
+heat_in_order-requires c =
+    let many = length-take-le c.args.n c.order_of_work-order.result (omega arith) in
+    (c.requires.0, c.requires.1, refl, omega arith, λ k l. let l' : k < c.args.n = omega arith in rw get_or-take (c.order_of_work-order.ensures.below k l'))
 
 pub returns : goal.returns
 returns c =
     let a = c.args in
-    let fitted = fitted_in a.heaters.now a.thermostats.now in
-    let p = c.requires.0.few_heaters in
-    let order = same_order a.c a.vol.now a.n a.heaters.now a.thermostats.now ∙ order_lent a.c a.n (omega arith) a.heaters.now a.thermostats.now ∙ sym (first_entries _ _ _ c.working_order-order.ensures) in
-    record { works = in_order a.c a.vol.now a.n fitted (points_in (settings_in a.present.now a.points.now)) _ _ _ _ _ order c.heat_in_order.ensures.works; holds = c.heat_in_order.ensures.holds }
+    let t = a.tank.now in
+    let first = first_in_order a.n a.fitted.now _ (fixed_lent t.numbers t.vol a.n a.fitted.now) c.order_of_work-order.ensures.order refl in
+    ap (λ (hs : List ℕ). turns_from t.numbers t.vol a.n a.fitted.now a.settings.now hs (heating_in a.state.now a.notes.now) (uncounted a.notes.now)) (sym first)
+    ∙ c.heat_in_order.ensures

@@ -8,6 +8,6 @@ pub returns-then-t-u : goal.returns-then-t-u
 unfolding clearly_above wide_close
 returns-then-t-u c = rw (c.if-t-u.true, c.is_close_above.ensures wide_finite c.if-t-u.true)
 
-pub returns : goal.returns
+pub returns-else-t-u : goal.returns-else-t-u
 unfolding clearly_above
-returns c = rw c.if-t-u.false
+returns-else-t-u c = rw c.if-t-u.false

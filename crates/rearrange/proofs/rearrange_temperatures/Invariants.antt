@@ -7,6 +7,3 @@ use Rattle.rearrange.proofs.rearrange_temperatures.Given as goal
 
 abbrev pub invariant-loop-k : goal.invariant-loop-k
 invariant-loop-k l = (l.k ≤ l.limit) × (l.initial' ≡ l.initial.temps) × (rearrange l.n l.vol l.initial.temps ≡ rounds (l.limit - l.k) false l.k l.n l.vol l.temps)
-
-abbrev pub decreases-loop-k : goal.decreases-loop-k
-decreases-loop-k l = l.limit - l.k

@@ -5,7 +5,7 @@ use Rattle.replay.proofs.Comparing.{Comparing}
 use Rattle.replay.proofs.is_same.Given as goal
 
 abbrev pub invariant-loop-job : goal.invariant-loop-job
-invariant-loop-job l = Comparing l.bytes l.stored l.job l.at
+invariant-loop-job l = Comparing l.bytes l.stored l.job l.rest
 
 abbrev pub decreases-loop-job : goal.decreases-loop-job
 decreases-loop-job l = records_left (length l.bytes) l.job.ended l.job.at

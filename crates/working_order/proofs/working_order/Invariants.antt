@@ -4,7 +4,4 @@ use Rattle.working_order.proofs.Sorting.{Sorted}
 use Rattle.working_order.proofs.working_order.Given as goal
 
 abbrev pub invariant-loop-x : goal.invariant-loop-x
-invariant-loop-x l = Sorted (comes_before (position_in l.heaters)) l.n l.x l.order
-
-abbrev pub decreases-loop-x : goal.decreases-loop-x
-decreases-loop-x l = l.x
+invariant-loop-x l = Sorted (comes_before (position_in l.positions)) l.n l.x l.order

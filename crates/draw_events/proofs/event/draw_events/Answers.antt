@@ -1,27 +1,23 @@
 -- `event::draw_events` meets its contract (01, Draw; Refill; refusals 9 and 10). The loop's invariant: the events left, from where those before them have come to, give what all of them give.
-use native.Mathlib.Omega.{arith}
-use native.Mathlib.Nat.{sub-zero}
+use Rattle.std.proofs.lemmas.Result.{err_from_is_err_and}
 use Rattle.draw_events.proofs.Worked.{events_next, events_refused, events_end}
-use Rattle.draw_events.proofs.event.draw_events.Invariants.{volume_at}
 use Rattle.draw_events.proofs.event.draw_events.Goals as goal
 
-pub loop-k-init : goal.loop-k-init
-loop-k-init c = (omega arith, rw sub-zero, c.sum_of_none-kept.ensures _)
-
-pub returns-then-a-ne0 : goal.returns-then-a-ne0
-returns-then-a-ne0 c =
-    let at = c.loop-k in
+pub returns-in_err-draw_event : goal.returns-in_err-draw_event
+returns-in_err-draw_event c =
+    let at = c.loop-wanted in
     let a = c.args in
-    events_refused a.c a.vol.now a.feed (volume_at a.volumes.now) _ _ at.temps _ at.t c.draw_event-w.result.answer _ c.loop-k-test.true at.invariant.1 c.draw_event-w.ensures.event c.if-a-ne0.true
+    let w = err_from_is_err_and c.from_residual.result c.from_residual.ensures.1 in
+    events_refused a.tank.now.numbers a.tank.now.vol a.feed a.volumes.now _ at.temps _ at.totals _ c.draw_event.result _ c.loop-wanted-test.true at.invariant.0 c.draw_event.ensures.event _ c.in_err-draw_event.was _ w.0 w.1 w.2
 
-pub loop-k-preserved : goal.loop-k-preserved
-loop-k-preserved c =
-    let at = c.loop-k in
+pub loop-wanted-preserved : goal.loop-wanted-preserved
+loop-wanted-preserved c =
+    let at = c.loop-wanted in
     let a = c.args in
-    (omega arith, events_next a.c a.vol.now a.feed (volume_at a.volumes.now) _ _ at.temps _ at.t c.draw_event-w.result.answer _ c.loop-k-test.true at.invariant.1 c.draw_event-w.ensures.event c.if-a-ne0.false, c.draw_event-w.ensures.keeps)
+    (events_next a.tank.now.numbers a.tank.now.vol a.feed a.volumes.now _ at.temps _ at.totals _ c.draw_event.result _ c.loop-wanted-test.true at.invariant.0 c.draw_event.ensures.event _ c.in_ok-draw_event.was, c.draw_event.ensures.keeps)
 
 pub returns : goal.returns
 returns c =
-    let at = c.loop-k in
+    let at = c.loop-wanted in
     let a = c.args in
-    events_end a.c a.vol.now a.feed (volume_at a.volumes.now) _ at.k at.temps at.t _ c.loop-k-test.false at.invariant.1
+    events_end a.tank.now.numbers a.tank.now.vol a.feed a.volumes.now _ at.temps at.totals _ c.loop-wanted-test.false at.invariant.0

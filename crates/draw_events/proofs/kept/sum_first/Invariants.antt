@@ -1,5 +1,5 @@
 -- `kept::sum_first` meets its contract (01, Draw). The loop's invariant: the accumulator has the layers below k, and what is left gives the whole sum.
-use Prim.Native.Nat.{ℕ, ◌-◌}
+use Prim.Native.Nat.{ℕ}
 use lib.ListN.{get_or}
 use lib.Ieee.{nan}
 use Rattle.numeric.specs.Iterate.{Rest}
@@ -8,6 +8,3 @@ use Rattle.draw_events.proofs.kept.sum_first.Given as goal
 
 abbrev pub invariant-loop-k : goal.invariant-loop-k
 invariant-loop-k l = Rest (add_at (λ (j : ℕ). get_or l.vol j nan)) l.n l.initial.a l.k l.a
-
-abbrev pub decreases-loop-k : goal.decreases-loop-k
-decreases-loop-k l = l.n - l.k

@@ -1,10 +1,7 @@
 -- `heat::calc_temps_with_energy_input` meets its contract. The loop's invariant: heating the layers left gives the whole.
-use Rattle.numeric.specs.Iterate.{rest_start, rest_next, rest_end}
+use Rattle.numeric.specs.Iterate.{rest_next, rest_end}
 use Rattle.heating.specs.Heat.{heated}
 use Rattle.heating.proofs.heat.calc_temps_with_energy_input.Goals as goal
-
-pub loop-k-init : goal.loop-k-init
-loop-k-init c = rest_start _ _ _
 
 pub loop-k-preserved : goal.loop-k-preserved
 loop-k-preserved c =

@@ -1,5 +1,5 @@
 -- `heat::calc_temps_with_energy_input` meets its contract. The loop's invariant: heating the layers left gives the whole.
-use Prim.Native.Nat.{ℕ, ◌-◌}
+use Prim.Native.Nat.{ℕ}
 use lib.Ieee.{Float}
 use Rattle.numeric.specs.Double.{◌⊕◌, ◌⊘◌, zero_f}
 use Rattle.numeric.specs.Iterate.{Rest}
@@ -9,7 +9,4 @@ use Rattle.heating.specs.Heat.{offers_to}
 use Rattle.heating.proofs.heat.calc_temps_with_energy_input.Given as goal
 
 abbrev pub invariant-loop-k : goal.invariant-loop-k
-invariant-loop-k l = Rest (update_at (λ (j : ℕ) (t : Float). t ⊕ (offers_to l.layer l.offer j ⊕ zero_f) ⊘ heat_capacity l.c l.vol j)) l.n l.initial.temps l.k l.temps
-
-abbrev pub decreases-loop-k : goal.decreases-loop-k
-decreases-loop-k l = l.n - l.k
+invariant-loop-k l = Rest (update_at (λ (j : ℕ) (t : Float). t ⊕ (offers_to l.layer l.offer j ⊕ zero_f) ⊘ heat_capacity l.c l.tank.vol j)) l.c.layers l.initial.temps l.k l.temps

@@ -29,12 +29,12 @@ loop-k-preserved c =
     let a = c.args in
     let l = c.loop-k in
     let p = c.requires in
-    (omega (arith, c.loop-k-test.true), refl, rw (l.invariant.2, c.fact_at-fact.ensures) (one_told a.settings a.figures.now a.flags.now a.rounds.now a.course.now a.ran.now a.count a.order.now (omega (arith, p.0, p.1)) l.k c.loop-k-test.true p.0 (p.2 l.k c.loop-k-test.true)))
+    (omega (arith, c.loop-k-test.true), refl, rw (l.invariant.2, c.fact_at-fact.ensures) (one_told a.settings.now a.notes.now a.count a.order.now (omega (arith, p.0, p.1)) l.k c.loop-k-test.true p.0))
 
 pub returns : goal.returns
 returns c =
     let a = c.args in
     let l = c.loop-k in
     let p = c.requires in
-    let e = all_many a.settings a.figures.now a.flags.now a.rounds.now a.course.now a.ran.now a.count a.order.now (omega (arith, p.0, p.1)) in
+    let e = all_many a.settings.now a.notes.now a.count a.order.now (omega (arith, p.0, p.1)) in
     record { tells = whole _ a.count l.r l.k (omega (arith, l.invariant.0, c.loop-k-test.false)) e l.invariant.1 l.invariant.2; few = omega (arith, l.invariant.0, l.invariant.1, p.0) }

@@ -1,9 +1,9 @@
 -- `lines::put_outcome` meets its contract: its parts, one after the other.
-use native.Mathlib.Omega.{arith}
-use Rattle.job_lines.specs.Put.{put_then}
+use Rattle.job_lines.proofs.Counts.{flag_number}
+use Rattle.job_lines.specs.Put.{writes_then}
 use Rattle.job_history.specs.Lines.{outcome_text}
 use Rattle.job_history.proofs.lines.put_outcome.Goals as goal
 
-pub returns : goal.returns
+pub returns-clause-puts : goal.returns-clause-puts
 unfolding outcome_text
-returns c = record { puts = rw (← c.flag_number.ensures, ← c.flag_number-2.ensures) (put_then (put_then (put_then (put_then c.put_number-a.ensures.puts c.put_number-b.ensures.puts) c.put_double-c.ensures.puts) c.put_number-d.ensures.puts) c.put_byte.ensures.puts); within = omega arith }
+returns-clause-puts c = rw (← flag_number _ _ c.from.ensures, ← flag_number _ _ c.from-2.ensures) (writes_then (writes_then (writes_then (writes_then c.number.ensures.puts c.number-2.ensures.puts) c.double.ensures.puts) c.number-3.ensures.puts) c.byte.ensures.puts)

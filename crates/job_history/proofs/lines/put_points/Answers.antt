@@ -1,21 +1,18 @@
--- `lines::put_points` meets its contract: the four cases, in each the lower set point and then the upper.
-use native.Mathlib.Omega.{arith}
-use Rattle.job_lines.specs.Put.{put_then}
-use Rattle.job_history.specs.Lines.{points_text}
+-- `lines::put_points` meets its contract: the lower set point, then the upper.
+use Rattle.std.proofs.Common.{◌≡◌, refl, ◌++◌}
+use Rattle.set_points.specs.declared.SetPoints.{SetPoints}
+use Rattle.set_points.specs.declared.SetPoints.TheVariants.{Neither, Lower, Upper, Both}
+use Rattle.set_points.specs.SetPoints.{has_lower, lower_of, has_upper, upper_of, given_lower, given_upper}
+use Rattle.job_lines.specs.Put.{writes_then}
+use Rattle.job_history.specs.Lines.{point_text, points_text}
 use Rattle.job_history.proofs.lines.put_points.Goals as goal
 
-pub returns-in-Neither : goal.returns-in-Neither
-unfolding points_text
-returns-in-Neither c = record { puts = rw c.in-Neither.is (put_then c.put_missing-a.ensures.puts c.put_missing.ensures.puts); within = omega arith }
+each_point : (p : SetPoints) → points_text p ≡ point_text (given_lower p) ++ point_text (given_upper p)
+unfolding points_text has_lower lower_of has_upper upper_of
+each_point Neither = refl
+each_point (Lower l) = refl
+each_point (Upper u) = refl
+each_point (Both l u) = refl
 
-pub returns-in-Lower : goal.returns-in-Lower
-unfolding points_text
-returns-in-Lower c = record { puts = rw c.in-Lower.is (put_then c.put_double-a.ensures.puts c.put_missing-in-Lower.ensures.puts); within = omega arith }
-
-pub returns-in-Upper : goal.returns-in-Upper
-unfolding points_text
-returns-in-Upper c = record { puts = rw c.in-Upper.is (put_then c.put_missing-a-in-Upper.ensures.puts c.put_double.ensures.puts); within = omega arith }
-
-pub returns-in-Both : goal.returns-in-Both
-unfolding points_text
-returns-in-Both c = record { puts = rw c.in-Both.is (put_then c.put_double-a-in-Both.ensures.puts c.put_double-in-Both.ensures.puts); within = omega arith }
+pub returns-clause-puts : goal.returns-clause-puts
+returns-clause-puts c = rw (each_point c.args.p, ← c.lower.ensures, ← c.upper.ensures) (writes_then c.put_point.ensures.puts c.put_point-2.ensures.puts)

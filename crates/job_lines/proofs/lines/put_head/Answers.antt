@@ -1,9 +1,8 @@
 -- `lines::put_head` meets its contract (01, Job): its parts, one after the other.
-use native.Mathlib.Omega.{arith}
-use Rattle.job_lines.specs.Put.{put_then}
+use Rattle.job_lines.specs.Put.{writes_then}
 use Rattle.job_lines.specs.Lines.{head_text}
 use Rattle.job_lines.proofs.lines.put_head.Goals as goal
 
-pub returns : goal.returns
+pub returns-clause-puts : goal.returns-clause-puts
 unfolding head_text
-returns c = record { puts = put_then (put_then c.put_byte-a.ensures.puts c.put_number-b.ensures.puts) c.put_number.ensures.puts; within = omega arith }
+returns-clause-puts c = rw (← c.number_in.ensures) (writes_then (writes_then c.byte.ensures.puts c.number.ensures.puts) c.number-2.ensures.puts)

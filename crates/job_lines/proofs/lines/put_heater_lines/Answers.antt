@@ -1,31 +1,27 @@
 -- `lines::put_heater_lines` meets its contract (01, Job). The loop's invariant: the lines of the first k heaters are put.
-use mathlib.Core.Path.{◌≡◌}
-use native.Mathlib.Omega.{arith}
-use Rattle.job_lines.specs.Put.{put_nothing, put_then, put_length}
+use Rattle.std.proofs.Common.{◌≡◌, arith}
+use Rattle.job_lines.specs.Put.{writes_nothing, writes_then}
 use Rattle.job_lines.specs.Lines.{joined, joined_more, ordered_line, heater_lines}
 use Rattle.job_lines.proofs.lines.put_heater_lines.Goals as goal
 
 pub loop-k-init : goal.loop-k-init
 unfolding joined
-loop-k-init c = (omega arith, omega arith, put_nothing _ _)
+loop-k-init c = record { within = omega arith; writes = writes_nothing _ }
 
-pub offset_bounds-lines-h : goal.offset_bounds-lines-h
-offset_bounds-lines-h c = omega (arith, c.requires.2 c.loop-k.k (omega arith))
+pub offset_bounds-lines-order : goal.offset_bounds-lines-order
+offset_bounds-lines-order c = omega (arith, c.requires.2 c.loop-k.k c.loop-k-test.true)
 
-pub bounds-lines-h : goal.bounds-lines-h
-bounds-lines-h c = omega (arith, c.requires.2 c.loop-k.k (omega arith))
+pub bounds-lines-order : goal.bounds-lines-order
+bounds-lines-order c = omega (arith, c.requires.2 c.loop-k.k c.loop-k-test.true)
 
 pub loop-k-preserved : goal.loop-k-preserved
-loop-k-preserved c =
-    let at = c.loop-k in
-    (omega arith, omega arith, rw (joined_more (ordered_line c.args.order c.args.lines) at.k) (put_then at.invariant.2 c.put_heater_line-a.ensures.puts))
+loop-k-preserved c = record {
+  within = omega arith;
+  writes = rw (joined_more (ordered_line c.args.order c.args.lines) c.loop-k.k) (writes_then c.loop-k.invariant.writes c.put_heater_line.ensures.puts);
+}
 
-pub shape_of-buf : goal.shape_of-buf
-shape_of-buf c = put_length c.loop-k.invariant.2
-
-pub returns : goal.returns
+pub returns-clause-puts : goal.returns-clause-puts
 unfolding heater_lines
-returns c =
-    let at = c.loop-k in
-    let e : at.k ≡ c.args.n = omega arith in
-    record { puts = rw e at at.invariant.2; within = omega arith }
+returns-clause-puts c =
+    let e : c.loop-k.k ≡ c.args.n = omega arith in
+    rw e at c.loop-k.invariant.writes

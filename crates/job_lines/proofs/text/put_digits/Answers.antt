@@ -5,7 +5,7 @@ use native.Mathlib.Omega.{arith}
 use native.Mathlib.Nat.{mod-lt}
 use lib.ListN.{length-set}
 use Rattle.job_lines.specs.Text.{digits}
-use Rattle.job_lines.proofs.Digits.{digits_length, digits_next}
+use Rattle.job_lines.proofs.Digits.{digits_next}
 use Rattle.job_lines.proofs.text.put_digits.Goals as goal
 
 pub loop-i-init : goal.loop-i-init
@@ -33,4 +33,4 @@ unfolding digits
 returns c =
     let at = c.loop-i in
     let e : at.i ≡ 0 = omega arith in
-    record { puts = record { stands = rw e at at.invariant.2; ends = rw digits_length }; within = omega arith }
+    rw e at at.invariant.2

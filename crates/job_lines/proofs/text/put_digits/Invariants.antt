@@ -8,6 +8,3 @@ use Rattle.job_lines.proofs.text.put_digits.Given as goal
 
 abbrev pub invariant-loop-i : goal.invariant-loop-i
 invariant-loop-i l = (l.i ≤ l.count) × (length l.buf ≡ length l.initial.buf) × (sets l.buf l.at (digits l.base l.i l.rest) ≡ sets l.initial.buf l.at (digits l.base l.count l.n))
-
-abbrev pub decreases-loop-i : goal.decreases-loop-i
-decreases-loop-i l = l.i

@@ -28,5 +28,5 @@ pub returns : goal.returns
 unfolding width_from
 returns c =
     let at = c.loop-k in
-    let e : 20 - at.k ≡ 0 = omega arith in
+    let e : at.k ≡ 20 = omega (arith, at.auto.k-end) in
     record { is = rw e at at.invariant.1; few = omega arith }

@@ -6,6 +6,3 @@ use Rattle.job_lines.proofs.text.width.Given as goal
 
 abbrev pub invariant-loop-k : goal.invariant-loop-k
 invariant-loop-k l = (l.k ≤ 20) × (width_from (20 - l.k) l.k l.rest ≡ width_of l.n)
-
-abbrev pub decreases-loop-k : goal.decreases-loop-k
-decreases-loop-k l = 20 - l.k

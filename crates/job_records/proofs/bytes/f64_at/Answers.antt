@@ -6,4 +6,4 @@ use Rattle.job_records.proofs.bytes.f64_at.Goals as goal
 
 pub returns : goal.returns
 unfolding double_at
-returns c = c.double_of.ensures ∙ ap (of_bits binary64) c.u64_at.ensures
+returns c = c.f64_from_bits_with_nan.ensures ∙ ap (of_bits binary64) c.u64_at.ensures

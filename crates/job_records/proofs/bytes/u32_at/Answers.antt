@@ -1,7 +1,11 @@
--- `bytes::u32_at` meets its contract (01, Job): two numbers of 16 bits, the lower first.
-use Rattle.job_records.specs.Bytes.{u32_at}
+-- `bytes::u32_at` meets its contract (01, Job): the lower byte first.
+use Rattle.std.proofs.Common.{◌+◌, ◌≡◌, arith}
+use Rattle.job_records.specs.Bytes.{u16_at, u32_at, u64_at}
 use Rattle.job_records.proofs.bytes.u32_at.Goals as goal
 
 pub returns : goal.returns
-unfolding u32_at
-returns c = simp (c.u16_at-2.ensures, c.u16_at.ensures)
+unfolding u16_at u32_at u64_at
+returns c =
+    let a = c.args.at in
+    let three : a + 2 + 1 ≡ a + 3 = omega arith in
+    rw three (omega arith)

@@ -1,15 +1,13 @@
--- `record::make_tank` meets its contract (01, Job): by make's number.
-use mathlib.Core.Path.{refl, sym}
-use borrow.Author.Tests.{eq-eqb, ne_eqb}
-use Rattle.job_lines.specs.Put.{written_nothing}
+-- `record::make_tank` meets its contract (01, Job): by what make answers.
+use Rattle.std.proofs.Common.{refl}
 use Rattle.job_model.specs.Job.{made_run}
-use native.Mathlib.Omega.{arith}
+use Rattle.job_model.proofs.Given.{gives_nothing, refused_job}
 use Rattle.job_run.proofs.record.make_tank.Goals as goal
 
-pub returns-then-m-ne0 : goal.returns-then-m-ne0
+pub returns-in-Ok : goal.returns-in-Ok
 unfolding made_run
-returns-then-m-ne0 c = rw (← c.new-m.ensures, ne_eqb _ _ c.if-m-ne0.true) c.refuse.ensures
+returns-in-Ok c = rw (← c.new-m.ensures, c.in-Ok.is) (gives_nothing _ _)
 
-pub returns : goal.returns
+pub returns-in-Err : goal.returns-in-Err
 unfolding made_run
-returns c = rw (← c.new-m.ensures, eq-eqb _ _ c.if-m-ne0.false) (record { goes = refl; counts = refl; prints = sym (written_nothing _); short = omega arith })
+returns-in-Err c = rw (← c.new-m.ensures, c.in-Err.is, refused_job c.args.j c.in-Err.refusal _ _ refl) c.refuse.ensures

@@ -2,8 +2,5 @@
 use Rattle.job_windows.proofs.Taken.{Going}
 use Rattle.job_windows.proofs.input.run_input.Given as goal
 
-abbrev pub invariant-loop-windows : goal.invariant-loop-windows
-invariant-loop-windows g l = Going l.buf l.job l.held l.windows
-
-abbrev pub decreases-loop-windows : goal.decreases-loop-windows
-decreases-loop-windows g l = l.windows
+abbrev pub invariant-loop-window : goal.invariant-loop-window
+invariant-loop-window g l = Going l.space l.job l.held l._window

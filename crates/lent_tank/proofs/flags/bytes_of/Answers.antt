@@ -1,21 +1,18 @@
--- `flags::bytes_of` meets its contract (01, The four calls): the flags are written one by one.
-use mathlib.Core.Path.{refl, ap, ◌∙◌}
-use mathlib.Core.Bool.{false}
-use Rattle.numeric.specs.Tabulate.{tabulate}
-use Rattle.tank_arrays.proofs.LentArrays.{places, list_same}
-use Rattle.lent_tank.specs.Flags.{bytes_of}
-use borrow.Author.Rules.{rules}
+-- `flags::bytes_of` meets its contract (01, The four calls). The loop's invariant: the places passed are done.
+use Rattle.std.proofs.Common.{refl, false, replicate}
+use Rattle.std.proofs.lemmas.List.{length-replicate}
+use Rattle.lent_tank.specs.Flags.{byte_of}
+use Rattle.lent_tank.proofs.Places.{mapped_next, mapped_end}
 use Rattle.lent_tank.proofs.flags.bytes_of.Goals as goal
 
+pub loop-i-init : goal.loop-i-init
+loop-i-init g c = refl
+
+pub loop-i-preserved : goal.loop-i-preserved
+loop-i-preserved g c =
+    let e = mapped_next byte_of false c.args.flags.now (replicate g.row.N 0) c.loop-i.bytes g.row.N c.told-flags (length-replicate g.row.N 0) c.loop-i.i c.loop-i-test.true c.loop-i.invariant in
+    rw c.byte_of.ensures e
+
 pub returns : goal.returns
-unfolding tabulate
-returns c =
-    list_same c.byte_of.ensures
-    (list_same c.byte_of-2.ensures
-    (list_same c.byte_of-3.ensures
-    (list_same c.byte_of-4.ensures
-    (list_same c.byte_of-5.ensures
-    (list_same c.byte_of-6.ensures
-    (list_same c.byte_of-7.ensures
-    (list_same c.byte_of-8.ensures refl)))))))
-    ∙ ap bytes_of (places false 8 c.args.flags (search rules))
+returns g c =
+    mapped_end byte_of false c.args.flags.now (replicate g.row.N 0) c.loop-i.bytes g.row.N c.told-flags (length-replicate g.row.N 0) c.loop-i.i c.loop-i-test.false c.loop-i.invariant

@@ -1,8 +1,16 @@
--- `steps::settings_in` meets its contract (01, The four calls): one setting after another.
-use Rattle.numeric.specs.Tabulate.{tabulate}
-use Rattle.tank_arrays.specs.Arrays.{settings_in}
+-- `steps::settings_in` meets its contract (01, The four calls). The loop's invariant: writing the heaters left gives the whole.
+use Rattle.std.proofs.Common.{◌∙◌}
+use Rattle.numeric.specs.Iterate.{rest_start, rest_next, rest_end}
+use Rattle.lent_tank.specs.Layout.{settings_in}
+use Rattle.lent_tank.proofs.Places.{one_row}
 use Rattle.lent_tank.proofs.steps.settings_in.Goals as goal
 
+pub loop-h-init : goal.loop-h-init
+loop-h-init c = rest_start _ _ _
+
+pub loop-h-preserved : goal.loop-h-preserved
+loop-h-preserved c = rw (c.points_in.ensures) (rest_next _ _ _ _ _ c.loop-h-test.true c.loop-h.invariant)
+
 pub returns : goal.returns
-unfolding tabulate settings_in
-returns c = rw (c.setting_in-8.ensures, c.setting_in-7.ensures, c.setting_in-6.ensures, c.setting_in-5.ensures, c.setting_in-4.ensures, c.setting_in-3.ensures, c.setting_in-2.ensures, c.setting_in.ensures)
+unfolding settings_in
+returns c = rw (← c.flags_in-there.ensures) (rest_end _ _ _ _ _ c.loop-h-test.false c.loop-h.invariant ∙ one_row _ _)

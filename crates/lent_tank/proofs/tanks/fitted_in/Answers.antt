@@ -1,8 +1,16 @@
--- `tanks::fitted_in` meets its contract (01, The four calls): one heater after another.
-use Rattle.numeric.specs.Tabulate.{tabulate}
-use Rattle.tank_arrays.specs.Arrays.{fitted_in}
+-- `tanks::fitted_in` meets its contract (01, The four calls). The loop's invariant: writing the heaters left gives the whole.
+use Rattle.std.proofs.Common.{◌∙◌}
+use Rattle.numeric.specs.Iterate.{rest_start, rest_next, rest_end}
+use Rattle.lent_tank.specs.Layout.{fitted_in}
+use Rattle.lent_tank.proofs.Places.{one_row}
 use Rattle.lent_tank.proofs.tanks.fitted_in.Goals as goal
 
+pub loop-h-init : goal.loop-h-init
+loop-h-init c = rest_start _ _ _
+
+pub loop-h-preserved : goal.loop-h-preserved
+loop-h-preserved c = rw (c.then_some.ensures) (rest_next _ _ _ _ _ c.loop-h-test.true c.loop-h.invariant)
+
 pub returns : goal.returns
-unfolding tabulate fitted_in
-returns c = rw (c.heater_at-8.ensures, c.heater_at-7.ensures, c.heater_at-6.ensures, c.heater_at-5.ensures, c.heater_at-4.ensures, c.heater_at-3.ensures, c.heater_at-2.ensures, c.heater_at.ensures)
+unfolding fitted_in
+returns c = rw (← c.flags_in-present.ensures) (rest_end _ _ _ _ _ c.loop-h-test.false c.loop-h.invariant ∙ one_row _ _)

@@ -7,6 +7,3 @@ use Rattle.plain_mixing.proofs.plain.rearrange_plain.Given as goal
 
 abbrev pub invariant-loop-k : goal.invariant-loop-k
 invariant-loop-k l = (l.k ≤ l.limit) × (rearrange l.n l.vol l.first ≡ rounds (l.limit - l.k) false l.k l.n l.vol l.temps)
-
-abbrev pub decreases-loop-k : goal.decreases-loop-k
-decreases-loop-k l = l.limit - l.k

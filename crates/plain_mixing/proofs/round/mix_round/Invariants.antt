@@ -5,7 +5,4 @@ use Rattle.mixing.specs.Round.{pair}
 use Rattle.plain_mixing.proofs.round.mix_round.Given as goal
 
 abbrev pub invariant-loop-i : goal.invariant-loop-i
-invariant-loop-i l = (l.bottom ≤ l.i) × Rest (pair l.n l.vol) l.pairs (record { temps = l.initial.temps; bottom = 0 }) l.i (record { temps = l.temps; bottom = l.bottom })
-
-abbrev pub decreases-loop-i : goal.decreases-loop-i
-decreases-loop-i l = l.pairs - l.i
+invariant-loop-i l = (l.bottom ≤ l.i) × Rest (pair l.n l.vol) (l.n - 1) (record { temps = l.initial.temps; bottom = 0 }) l.i (record { temps = l.temps; bottom = l.bottom })

@@ -1,7 +1,6 @@
 -- `fields::points_at` meets its contract (01, Job): the case of the presence byte.
-use lib.ListN.{get_or}
-use native.Mathlib.Omega.{arith}
-use borrow.Author.Tests.{ne_eqb}
+use Rattle.std.proofs.Common.{arith}
+use Rattle.std.proofs.lemmas.Bool.Decides.{nat_tests}
 use Rattle.job_records.specs.Fields.{points_of, points_at}
 use Rattle.record_bodies.proofs.fields.points_at.Goals as goal
 
@@ -19,4 +18,4 @@ returns-in-2 c = rw (c.in-2.is, c.f64_at-in-2.ensures)
 
 pub returns-in_default : goal.returns-in_default
 unfolding points_of points_at
-returns-in_default c = rw (ne_eqb (get_or c.args.s.now c.args.at 0) 0 (λ e. omega arith), ne_eqb (get_or c.args.s.now c.args.at 0) 1 (λ e. omega arith), ne_eqb (get_or c.args.s.now c.args.at 0) 2 (λ e. omega arith), c.f64_at-in_default-2.ensures, c.f64_at-in_default.ensures)
+returns-in_default c = grind (arith, nat_tests)

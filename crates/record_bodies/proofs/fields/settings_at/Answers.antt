@@ -12,7 +12,7 @@ unfolding tabulate
 loop-k-init c = (omega arith, refl)
 
 pub loop-k-preserved : goal.loop-k-preserved
-loop-k-preserved c = (omega arith, rw (c.points_at-points.ensures, c.loop-k.invariant.1) (filled_next (setting_at c.args.s.now c.args.at) no_setting c.loop-k.k no_settings (omega arith)))
+loop-k-preserved c = (omega arith, rw (c.points_at.ensures, c.loop-k.invariant.1) (filled_next (setting_at c.args.s.now c.args.at) no_setting c.loop-k.k no_settings (omega arith)))
 
 pub returns : goal.returns
 unfolding settings_at

@@ -1,6 +1,6 @@
 -- `kinds::record_at` meets its contract (01, Job): by the two bytes of the kind.
-use native.Mathlib.Omega.{arith}
-use borrow.Author.Tests.{ne_eqb}
+use Rattle.std.proofs.Common.{arith}
+use Rattle.std.proofs.lemmas.Bool.Decides.{nat_tests}
 use Rattle.job_records.specs.Records.{by_kind}
 use Rattle.record_bodies.proofs.kinds.record_at.Goals as goal
 
@@ -18,4 +18,4 @@ returns-in-3 c = rw (← c.u16_at-kind.ensures, c.in-3.is) c.step_at.ensures
 
 pub returns-in_default : goal.returns-in_default
 unfolding by_kind
-returns-in_default c = rw (← c.u16_at-kind.ensures, ne_eqb c.u16_at-kind.result 1 (λ e. omega arith), ne_eqb c.u16_at-kind.result 2 (λ e. omega arith), ne_eqb c.u16_at-kind.result 3 (λ e. omega arith)) c.refused.ensures
+returns-in_default c = grind (arith, nat_tests)

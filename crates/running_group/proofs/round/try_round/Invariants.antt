@@ -4,7 +4,4 @@ use Rattle.layer_joining.specs.Running.{Follows}
 use Rattle.running_group.proofs.round.try_round.Given as goal
 
 abbrev pub invariant-loop-i : goal.invariant-loop-i
-invariant-loop-i l = (l.i ≤ l.pairs) × (l.r.bottom ≤ l.i) × Follows l.n l.vol l.initial.temps l.i l.temps l.r
-
-abbrev pub decreases-loop-i : goal.decreases-loop-i
-decreases-loop-i l = l.pairs - l.i
+invariant-loop-i l = (l.i ≤ (l.n - 1)) × (l.r.bottom ≤ l.i) × Follows l.n l.vol l.initial.temps l.i l.temps l.r

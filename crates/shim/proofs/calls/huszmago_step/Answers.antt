@@ -1,19 +1,27 @@
 -- `calls::huszmago_step` meets its contract (01, The four calls): a refused step writes nothing, an accepted one what it changes, and the arrays hold its answer.
-use mathlib.Core.Path.{refl}
-use Rattle.shim.proofs.Kept.{refused_in_place, accepted_in_place}
+use Rattle.std.proofs.Common.{◌≡◌, get_or}
+use Rattle.tank_model.specs.Fixed.{fixed_by, placed_heaters}
+use Rattle.storage_tank.specs.Tank.{fixed_in}
+use Rattle.lent_tank.specs.Tanks.{tank_in}
+use Rattle.shim.proofs.Kept.{LentLengths, refused_in_place, accepted_in_place}
 use Rattle.shim.proofs.calls.huszmago_step.Goals as goal
 
-pub work_step-w-requires : goal.work_step-w-requires
-work_step-w-requires c = record { figures_zero = refl; flags_zero = refl; rounds_zero = refl }
-
-pub returns-then-w-ne0 : goal.returns-then-w-ne0
-returns-then-w-ne0 c =
+pub returns-in-Ok : goal.returns-in-Ok
+returns-in-Ok c =
     let i = c.args in
-    let l = c.lengths_told.ensures in
-    refused_in_place i.counts.now i.numbers.now i.temps.now i.heaters.now i.thermostats.now i.flags.now i.totals.now i.figures.now i.line_flags.now i.rounds.now l i.feed i.asked.now i.volumes.now i.present.now i.points.now _ _ _ c.flags_in-has_thermostat.ensures c.present_in-there.ensures c.flags_in-on.ensures _ _ _ _ _ _ _ c.work_step-w.ensures c.if-w-ne0.true
+    let long : LentLengths i.counts.now i.numbers.now i.totals.now i.figures.now i.rounds.now =
+    record { counts_long = c.told-counts; numbers_long = c.told-numbers; totals_long = c.told-totals; figures_long = c.told-figures; rounds_long = c.told-rounds } in
+    let t = tank_in i.counts.now i.numbers.now i.temps.now i.heaters.now i.thermostats.now i.flags.now in
+    let f : fixed_by c.cylinder_in-c.result (placed_heaters (get_or i.counts.now 1 0) c.fitted_in-fitted.result) ≡ fixed_in t = rw (c.cylinder_in-c.ensures, c.fitted_in-fitted.ensures) in
+    let w = rw (c.settings_in.ensures, c.flags_in-on.ensures) at c.in-Ok.ensures in
+    accepted_in_place i.counts.now i.numbers.now i.temps.now i.heaters.now i.thermostats.now i.flags.now i.totals.now i.figures.now i.line_flags.now i.rounds.now long _ _ f _ _ _ c.no_notes-notes.ensures _ w _ c.bytes_of.ensures _ _ _ _ c.put_report.ensures
 
-pub returns : goal.returns
-returns c =
+pub returns-in-Err : goal.returns-in-Err
+returns-in-Err c =
     let i = c.args in
-    let l = c.lengths_told.ensures in
-    accepted_in_place i.counts.now i.numbers.now i.temps.now i.heaters.now i.thermostats.now i.flags.now i.totals.now i.figures.now i.line_flags.now i.rounds.now l i.feed i.asked.now i.volumes.now i.present.now i.points.now _ _ _ c.flags_in-has_thermostat.ensures c.present_in-there.ensures c.flags_in-on.ensures _ _ _ _ _ _ _ c.work_step-w.ensures c.if-w-ne0.false _ c.totals_of.ensures _ _ c.bytes_of.ensures c.bytes_of-2.ensures
+    let long : LentLengths i.counts.now i.numbers.now i.totals.now i.figures.now i.rounds.now =
+    record { counts_long = c.told-counts; numbers_long = c.told-numbers; totals_long = c.told-totals; figures_long = c.told-figures; rounds_long = c.told-rounds } in
+    let t = tank_in i.counts.now i.numbers.now i.temps.now i.heaters.now i.thermostats.now i.flags.now in
+    let f : fixed_by c.cylinder_in-c.result (placed_heaters (get_or i.counts.now 1 0) c.fitted_in-fitted.result) ≡ fixed_in t = rw (c.cylinder_in-c.ensures, c.fitted_in-fitted.ensures) in
+    let w = rw (c.settings_in.ensures, c.flags_in-on.ensures) at c.in-Err.ensures in
+    rw c.number.ensures (refused_in_place i.counts.now i.numbers.now i.temps.now i.heaters.now i.thermostats.now i.flags.now i.totals.now i.figures.now i.line_flags.now i.rounds.now long _ _ f _ _ _ c.no_notes-notes.ensures _ w)

@@ -1,52 +1,63 @@
 -- `work_step` meets its contract (01, Step): each of its parts may refuse the step; else it is accepted with what they leave.
-use Rattle.tank_arrays.proofs.LentArrays.{zeros_hold}
-use Rattle.step_work.proofs.StepParts.{checks_refuse, within_limits, events_refuse, turns_refuse, end_refuses, end_accepts}
+use Rattle.std.proofs.Common.{rules, refl, ◌≡◌, ◌∙◌, sym, ◌≤◌, length, arith}
+use Rattle.std.specs.Prelude.{Err}
+use Rattle.draw_events.specs.Event.{no_totals}
+use Rattle.tank_model.specs.Fixed.{fixed_by, placed_heaters}
+use Rattle.heater_turns.specs.Lent.{fixed_lent}
+use Rattle.step_work.proofs.StepWorked.{checks_refuse, events_refuse, turns_refuse, end_refuses, end_accepts}
 use Rattle.step_work.proofs.work.work_step.Goals as goal
 
-pub returns-then-k-ne0 : goal.returns-then-k-ne0
-returns-then-k-ne0 c =
-    let i = c.args in
-    checks_refuse i.q i.heaters.now i.thermostats.now i.volumes.now i.present.now i.points.now _ _ c.lent_refusal-k.ensures c.if-k-ne0.true _ c.refused.ensures
+pub returns-in_err-step_refusal : goal.returns-in_err-step_refusal
+returns-in_err-step_refusal c =
+    let e : c.from_residual.result ≡ Err c.in_err-step_refusal.field-0.0 = search rules in
+    rw e (checks_refuse _ _ _ _ _ (c.in_err-step_refusal.ensures.refuses c.args.flags.now))
 
-pub layer_volumes-vol-requires : goal.layer_volumes-vol-requires
-layer_volumes-vol-requires c =
-    let i = c.args in
-    (within_limits i.q i.heaters.now i.thermostats.now i.volumes.now i.present.now i.points.now _ _ c.lent_refusal-k.ensures c.if-k-ne0.false).1
+pub returns-in_err-draw_events : goal.returns-in_err-draw_events
+returns-in_err-draw_events c =
+    let a = c.args in
+    let t = c.new-tank in
+    let g = fixed_lent t.result.numbers t.result.vol a.n a.fitted.now in
+    let same : g ≡ fixed_by a.c (placed_heaters a.n a.fitted.now) = rw (t.ensures.numbers, t.ensures.vol) in
+    let long : a.a.now.events ≤ length a.a.now.volumes = omega (arith, c.in_ok-step_refusal.ensures.within) in
+    let none : c.default-totals.result ≡ no_totals = search rules in
+    let e : c.from_residual-in_err-draw_events.result ≡ Err c.in_err-draw_events.field-0.0 = search rules in
+    rw e
+    (events_refuse _ _ a.a.now _ (sym (c.in_ok-step_refusal.ensures.refuses a.flags.now)) g same _ refl c.requires long _ none _ _ _
+    c.draw_events.ensures _ c.in_err-draw_events.was)
 
-pub draw_events-d-requires : goal.draw_events-d-requires
-draw_events-d-requires c =
-    let i = c.args in
-    let n = within_limits i.q i.heaters.now i.thermostats.now i.volumes.now i.present.now i.points.now _ _ c.lent_refusal-k.ensures c.if-k-ne0.false in
-    (n.0, n.1, n.3)
-
-pub returns-then-d-ne0 : goal.returns-then-d-ne0
-returns-then-d-ne0 c =
-    let i = c.args in
-    events_refuse i.q i.heaters.now i.thermostats.now i.volumes.now i.present.now i.points.now _ _ c.lent_refusal-k.ensures c.if-k-ne0.false _ c.layer_volumes-vol.ensures _ c.no_totals.ensures _ c.draw_events-d.result c.draw_events-d.ensures c.if-d-ne0.true _ c.refused-then-d-ne0.ensures
-
-pub average_of-average-requires : goal.average_of-average-requires
-average_of-average-requires c =
-    let i = c.args in
-    let n = within_limits i.q i.heaters.now i.thermostats.now i.volumes.now i.present.now i.points.now _ _ c.lent_refusal-k.ensures c.if-k-ne0.false in
-    (n.0, n.1)
-
-pub heat_turns-h-requires : goal.heat_turns-h-requires
-heat_turns-h-requires c =
-    let i = c.args in
-    let n = within_limits i.q i.heaters.now i.thermostats.now i.volumes.now i.present.now i.points.now _ _ c.lent_refusal-k.ensures c.if-k-ne0.false in
-    (record { some_layers = n.0; few_layers = n.1; few_heaters = n.2 }, zeros_hold _ _ _ c.requires)
-
-pub returns-then-h-ne0 : goal.returns-then-h-ne0
-returns-then-h-ne0 c =
-    let i = c.args in
-    turns_refuse i.q i.heaters.now i.thermostats.now i.volumes.now i.present.now i.points.now _ _ c.lent_refusal-k.ensures c.if-k-ne0.false _ c.layer_volumes-vol.ensures _ c.no_totals.ensures _ c.draw_events-d.result c.draw_events-d.ensures c.if-d-ne0.false _ c.average_of-average.ensures c.requires c.heat_turns-h.result _ _ c.heat_turns-h.ensures c.if-h-ne0.true _ c.refused-then-h-ne0.ensures
+pub returns-in_err-heat_turns : goal.returns-in_err-heat_turns
+returns-in_err-heat_turns c =
+    let a = c.args in
+    let t = c.new-tank in
+    let g = fixed_lent t.result.numbers t.result.vol a.n a.fitted.now in
+    let same : g ≡ fixed_by a.c (placed_heaters a.n a.fitted.now) = rw (t.ensures.numbers, t.ensures.vol) in
+    let long : a.a.now.events ≤ length a.a.now.volumes = omega (arith, c.in_ok-step_refusal.ensures.within) in
+    let none : c.default-totals.result ≡ no_totals = search rules in
+    let e : c.from_residual-in_err-heat_turns.result ≡ Err c.in_err-heat_turns.field-0.0 = search rules in
+    rw e
+    (turns_refuse _ _ a.a.now _ (sym (c.in_ok-step_refusal.ensures.refuses a.flags.now)) g same _ refl c.requires long _ none _ _ _
+    c.draw_events.ensures c.in_ok-draw_events.was _ c.average_of-average.ensures _ _ _ c.heat_turns.ensures _ c.in_err-heat_turns.was)
 
 pub returns-then-not-are_both_finite : goal.returns-then-not-are_both_finite
 returns-then-not-are_both_finite c =
-    let i = c.args in
-    end_refuses i.q i.heaters.now i.thermostats.now i.volumes.now i.present.now i.points.now _ _ c.lent_refusal-k.ensures c.if-k-ne0.false _ c.layer_volumes-vol.ensures _ c.no_totals.ensures _ c.draw_events-d.result c.draw_events-d.ensures c.if-d-ne0.false _ c.average_of-average.ensures c.requires c.heat_turns-h.result _ _ c.heat_turns-h.ensures c.if-h-ne0.false _ c.are_both_finite.ensures c.if-not-are_both_finite.true _ c.refused-then-not-are_both_finite.ensures
+    let a = c.args in
+    let t = c.new-tank in
+    let g = fixed_lent t.result.numbers t.result.vol a.n a.fitted.now in
+    let same : g ≡ fixed_by a.c (placed_heaters a.n a.fitted.now) = rw (t.ensures.numbers, t.ensures.vol) in
+    let long : a.a.now.events ≤ length a.a.now.volumes = omega (arith, c.in_ok-step_refusal.ensures.within) in
+    let none : c.default-totals.result ≡ no_totals = search rules in
+    end_refuses _ _ a.a.now _ (sym (c.in_ok-step_refusal.ensures.refuses a.flags.now)) g same _ refl c.requires long _ none _ _ _
+    c.draw_events.ensures c.in_ok-draw_events.was _ c.average_of-average.ensures _ _ _ c.heat_turns.ensures c.in_ok-heat_turns.was
+    (sym c.are_both_finite.ensures ∙ c.if-not-are_both_finite.true)
 
 pub returns : goal.returns
 returns c =
-    let i = c.args in
-    end_accepts i.q i.heaters.now i.thermostats.now i.volumes.now i.present.now i.points.now _ _ c.lent_refusal-k.ensures c.if-k-ne0.false _ c.layer_volumes-vol.ensures _ c.no_totals.ensures _ c.draw_events-d.result c.draw_events-d.ensures c.if-d-ne0.false _ c.average_of-average.ensures c.requires c.heat_turns-h.result _ _ c.heat_turns-h.ensures c.if-h-ne0.false _ c.are_both_finite.ensures c.if-not-are_both_finite.false
+    let a = c.args in
+    let t = c.new-tank in
+    let g = fixed_lent t.result.numbers t.result.vol a.n a.fitted.now in
+    let same : g ≡ fixed_by a.c (placed_heaters a.n a.fitted.now) = rw (t.ensures.numbers, t.ensures.vol) in
+    let long : a.a.now.events ≤ length a.a.now.volumes = omega (arith, c.in_ok-step_refusal.ensures.within) in
+    let none : c.default-totals.result ≡ no_totals = search rules in
+    end_accepts _ _ a.a.now _ (sym (c.in_ok-step_refusal.ensures.refuses a.flags.now)) g same _ refl c.requires long _ none _ _ _
+    c.draw_events.ensures c.in_ok-draw_events.was _ c.average_of-average.ensures _ _ _ c.heat_turns.ensures c.in_ok-heat_turns.was
+    (sym c.are_both_finite.ensures ∙ c.if-not-are_both_finite.false)

@@ -1,17 +1,27 @@
--- `volumes_check` meets its contract (01, The four calls: 7). The loop's invariant: the volumes before i pass.
-use Rattle.tank_model.specs.FirstRefusal.{searched_start, searched_turn, searched_stop, searched_end}
+-- `volumes_check` meets its contract (01, The four calls: 7): the first volume that does not pass decides.
+use Rattle.std.proofs.Common.{rules, ◌≡◌, ◌≤◌, ◌∙◌, length, arith}
+use Rattle.refusals.specs.Refusals.{number_of, number_in}
+use Rattle.std.specs.Float.{nan}
+use Rattle.tank_model.specs.Checks.{volume_check}
+use Rattle.tank_model.specs.FirstRefusal.{searched_start}
+use Rattle.tank_refusals.proofs.FirstRefusal.{item_refuses, item_passes, items_pass}
 use Rattle.tank_refusals.proofs.checks.volumes_check.Goals as goal
 
-pub loop-i-init : goal.loop-i-init
-loop-i-init c = searched_start _ _
+pub loop-v-init : goal.loop-v-init
+loop-v-init c = searched_start _ _
 
-pub returns-then-k-ne0 : goal.returns-then-k-ne0
-returns-then-k-ne0 c =
-    searched_stop _ _ _ _ c.loop-i-test.true c.volume_check-k.ensures c.if-k-ne0.true c.loop-i.invariant
+pub returns-in_err-volume_check : goal.returns-in_err-volume_check
+returns-in_err-volume_check c =
+    let few : c.args.n ≤ length c.args.volumes.now = omega arith in
+    let e : number_in c.from_residual.result ≡ number_of c.in_err-volume_check.field-0.0 = search rules in
+    e ∙ item_refuses volume_check nan _ _ few _ _ c.loop-v-test.true c.in_err-volume_check.ensures c.loop-v.invariant
 
-pub loop-i-preserved : goal.loop-i-preserved
-loop-i-preserved c =
-    searched_turn _ _ _ _ c.loop-i-test.true c.volume_check-k.ensures c.if-k-ne0.false c.loop-i.invariant
+pub loop-v-preserved : goal.loop-v-preserved
+loop-v-preserved c =
+    let few : c.args.n ≤ length c.args.volumes.now = omega arith in
+    item_passes volume_check nan _ _ few _ c.loop-v-test.true c.in_ok-volume_check.ensures c.loop-v.invariant
 
 pub returns : goal.returns
-returns c = searched_end _ _ _ c.loop-i-test.false c.loop-i.invariant
+returns c =
+    let few : c.args.n ≤ length c.args.volumes.now = omega arith in
+    items_pass volume_check nan _ _ few _ c.loop-v-test.false c.loop-v.invariant

@@ -1,6 +1,7 @@
 -- `JobReader::next` meets its contract (01, Job; Forms Rattle lacks): what the code stores as its place is what the contract says, since a record that is
 -- refused has the position of the reader as the one after it.
-use Rattle.std.proofs.Common.{ℕ, Bool, List, cond, ◌≡◌, sym, ap}
+use Rattle.std.proofs.Common.{ℕ, List, cond, ◌≡◌, sym, ap}
+use Rattle.job_records.specs.declared.Before.{Before}
 use Rattle.job_records.specs.declared.Reading.{Reading}
 use Rattle.job_records.specs.Records.{read_record}
 use Rattle.job_records.specs.Values.{is_refused}
@@ -8,9 +9,9 @@ use Rattle.job_records.proofs.ReaderLaws.{read_places}
 use Rattle.job_reader.specs.declared.reader.JobReader.{JobReader}
 use Rattle.job_reader.proofs.reader.JobReader.next.Goals as goal
 
-stored : (s : List ℕ) (at : ℕ) (tank : Bool) (heaters : ℕ) (step : Bool) (r : Reading) → r ≡ read_record s at tank heaters step
+stored : (s : List ℕ) (at : ℕ) (before : Before) (r : Reading) → r ≡ read_record s at before
     → r.next ≡ cond (is_refused r.content) at r.next
-stored s at tank heaters step r e = rw e (sym (read_places s at tank heaters step))
+stored s at before r e = rw e (sym (read_places s at before))
 
 pub returns : goal.returns
 returns c =
@@ -22,5 +23,5 @@ returns c =
       answers = e.answers;
       leaves =
           ap (λ (n : ℕ). let y : JobReader = record { bytes = x.bytes; at = n } in y)
-          (stored x.bytes.now x.at c.args.tank c.args.heaters c.args.step c.read_record-r.result e.answers);
+          (stored x.bytes.now x.at c.args.before c.read_record-r.result e.answers);
     }

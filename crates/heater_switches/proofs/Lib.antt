@@ -1,0 +1,2 @@
+-- The lemmas of `heater_switches`.
+mod Given

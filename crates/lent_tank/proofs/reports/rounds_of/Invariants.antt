@@ -1,0 +1,10 @@
+-- `reports::rounds_of` meets its contract (01, The four calls). The loop's invariant: writing the heaters left gives the whole.
+use Rattle.std.proofs.Common.{ℕ, get_or}
+use Rattle.numeric.specs.Iterate.{Rest}
+use Rattle.working_order.specs.Order.{max_heaters}
+use Rattle.lent_tank.specs.Reports.{no_line}
+use Rattle.lent_tank.proofs.Places.{one_at}
+use Rattle.lent_tank.proofs.reports.rounds_of.Given as goal
+
+abbrev pub invariant-loop-h : goal.invariant-loop-h
+invariant-loop-h l = Rest (one_at (λ (j : ℕ). (get_or l.lines j no_line).rounds)) max_heaters l.initial.rounds l.h l.rounds

@@ -1,0 +1,17 @@
+-- `tanks::heaters_of` meets its contract (01, The four calls). The loop's invariant: writing the heaters left gives the whole.
+use Rattle.std.proofs.Common.{◌∙◌}
+use Rattle.numeric.specs.Iterate.{rest_start, rest_next, rest_end}
+use Rattle.numeric.specs.Double.{zero_f}
+use Rattle.lent_tank.specs.Layout.{heaters_of}
+use Rattle.lent_tank.proofs.Places.{three_rows}
+use Rattle.lent_tank.proofs.tanks.heaters_of.Goals as goal
+
+pub loop-h-init : goal.loop-h-init
+loop-h-init c = rest_start _ _ _
+
+pub loop-h-preserved : goal.loop-h-preserved
+loop-h-preserved c = rw (c.unwrap_or.ensures) (rest_next _ _ _ _ _ c.loop-h-test.true c.loop-h.invariant)
+
+pub returns : goal.returns
+unfolding heaters_of
+returns c = rest_end _ _ _ _ _ c.loop-h-test.false c.loop-h.invariant ∙ three_rows _ _ _ zero_f

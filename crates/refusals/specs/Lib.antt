@@ -1,0 +1,2 @@
+-- The definitions of `refusals`: the number of each refusal, and of an answer that may be one.
+pub mod Refusals

@@ -1,2 +1,0 @@
--- The lemma that a proof of `repeating_layers` cites.
-mod Below

@@ -1,0 +1,2 @@
+-- The lemmas of `set_points`.
+pub mod Given

@@ -1,8 +1,0 @@
--- `clean_heater` meets its contract.
-use Rattle.storage_tank.proofs.make.clean_heater.Goals as goal
-
-pub returns-then-x : goal.returns-then-x
-returns-then-x c = rw c.if-x.true
-
-pub returns-else-x : goal.returns-else-x
-returns-else-x c = rw c.if-x.false

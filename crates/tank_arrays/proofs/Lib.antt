@@ -1,3 +1,0 @@
--- What stands in the arrays.
-pub mod LentArrays
-pub mod WorkingOrder

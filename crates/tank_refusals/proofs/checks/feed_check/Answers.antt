@@ -1,8 +1,0 @@
--- `feed_check` meets its contract (01, The four calls: 7).
-use Rattle.tank_refusals.proofs.checks.feed_check.Goals as goal
-
-pub returns-then-is_finite : goal.returns-then-is_finite
-returns-then-is_finite c = rw (← c.is_finite.ensures, c.if-is_finite.true)
-
-pub returns-else-is_finite : goal.returns-else-is_finite
-returns-else-is_finite c = rw (← c.is_finite.ensures, c.if-is_finite.false)

@@ -1,8 +1,0 @@
--- `is_position` meets its contract.
-use Rattle.tank_refusals.proofs.checks.is_position.Goals as goal
-
-pub returns-then-x : goal.returns-then-x
-returns-then-x c = rw c.if-x.true
-
-pub returns-else-x : goal.returns-else-x
-returns-else-x c = rw c.if-x.false
