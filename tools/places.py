@@ -18,9 +18,11 @@ PATTERNS = [
     ("1", "not-a-number or 0 for none", r"0\.0 / 0\.0|^\s+0\.0$"),
     ("3", "loops by while", r"\bwhile\b"),
     ("3", "indexes counted by hand", r"^\s+\w+ [+-]= 1;$"),
+    ("3", "loops over numbers by for", r"\bfor \w+ in [^&\[]*\.\."),
     ("4", "conversions by functions of their own", r"^\s*(pub )?fn (\w+_of|\w+_in|\w+_at|of_\w+|flag_number|digit)\b.*"),
     ("4", "comparison, equality, copying by functions of their own", r"^\s*(pub )?fn (is_same|copy_\w+|move_\w+|begins_with|is_\w*sorted)\b.*"),
     ("7", "a switch on what is to run", r"\bhistory: bool"),
+    ("7", "flags as parameters", r"^\s*(pub )?fn .*\b\w+: bool[,)]|^    \w+: bool,$"),
 ]
 
 

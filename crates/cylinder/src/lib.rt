@@ -68,12 +68,15 @@ pub fn is_no_volume(v: f64) -> bool
     v <= 1e-10
 }
 
-fn is_each_finite(xs: &[f64]) -> bool
+// No number of these is infinite, or not a number.
+pub fn is_each_finite(xs: &[f64]) -> bool
     ensures { result ≡ list_all finite xs.now }
 {
     xs.iter().all(|x| numeric::compare::is_finite(*x))
 }
 
+// The first n places.
+// Kept: beside `is_each_finite`: 01 asks it of n layers in 32 places, and of a slice each of three callers' proofs would cite the law for its first n.
 pub fn are_finite(n: usize, xs: &[f64; MAX_LAYERS]) -> bool
     requires { n ≤ max_layers }
     ensures { result ≡ all_finite n xs.now }

@@ -1,7 +1,7 @@
 -- Proves an event from its parts in the order of the work (01, Draw; Refill; refusals 9 and 10), and the events of a step one at a time.
 use Prim.Native.Nat.{ℕ, ◌+◌, ◌≤◌, ◌<◌}
 use mathlib.Core.Path.{◌≡◌, refl, sym, subst, ◌∙◌}
-use mathlib.Core.Bool.{Bool, true}
+use mathlib.Core.Bool.{Bool, true, false}
 use mathlib.Core.List.{List, [], ◌∷◌}
 use lib.ListN.{length, drop, get_or}
 use lib.Ieee.{Float, nan}
@@ -11,6 +11,7 @@ use Rattle.numeric.specs.Double.{◌⊕◌}
 use Rattle.refusals.specs.declared.Refusal.{Refusal}
 use Rattle.refusals.specs.Refusals.{number_of, number_in}
 use Rattle.refusals.proofs.Numbers.{number-not_0}
+use Rattle.mixing.specs.Mix.{Rearranged}
 use Rattle.cylinder.specs.declared.Cylinder.{Cylinder}
 use Rattle.draw_off.specs.declared.cold.Feed.{Feed}
 use Rattle.draw_events.specs.declared.Totals.{Totals}
@@ -20,6 +21,7 @@ use Rattle.refill.specs.Refill.{refill}
 use Rattle.draw_events.specs.Event.{EventMixing, Drawing, event_mixing, event_finite, number_after, event_of, temps_after_event, totals_after_event, event_number, draw_all}
 use Rattle.draw_off.specs.Lent.{draw_of}
 use Rattle.refill.specs.Lent.{refill_of}
+use Rattle.draw_events.proofs.Numbers.{mixing_told}
 use Rattle.draw_events.specs.Lent.{MixingWorked, drawing_of, drawing_after}
 
 -- what the step has drawn after an event that drew d and used so much
@@ -34,10 +36,21 @@ pub record EventParts (c : Cylinder) (feed : Feed) (wanted : Float) (temps : Lis
   pub mixing : MixingWorked (event_mixing mixes c.layers vol filled) filled first after
   pub told : (m : EventMixing) → first ≡ number_after m true → number_in answer ≡ number_after m (event_finite c after (totals_with t d used))
 
-pub event_worked : (c : Cylinder) (feed : Feed) (wanted : Float) (temps : List Float) (t : Totals) (vol held : List Float) (d : Drawn) (used : Float) (given filled : List Float) (mixes : Bool) (after : List Float) (first : ℕ) (answer : Result (Unit {0}) Refusal) → EventParts c feed wanted temps t vol held d used given filled mixes after first answer → drawing_of after answer (totals_with t d used) ≡ drawing_after c (event_of c vol feed wanted temps t) t
+pub event_worked : {c : Cylinder} {feed : Feed} {wanted : Float} {temps : List Float} {t : Totals} {vol held : List Float} (d : Drawn) {used : Float} {given filled : List Float} {mixes : Bool} {after : List Float} {first : ℕ} (answer : Result (Unit {0}) Refusal) → EventParts c feed wanted temps t vol held d used given filled mixes after first answer → drawing_of after answer (totals_with t d used) ≡ drawing_after c (event_of c vol feed wanted temps t) t
 unfolding event_of temps_after_event totals_after_event event_number
-event_worked c feed wanted temps t vol held d used given filled mixes after first answer w =
+event_worked {c} {feed} {wanted} {temps} {t} {vol} {held} d {used} {given} {filled} {mixes} {after} {first} answer w =
     rw (← w.draws, ← w.fills, w.told (event_mixing mixes c.layers vol filled) w.mixing.draws, w.mixing.leaves, w.uses)
+
+-- the mixing that ends an event, where one does: it draws what it answers, and leaves what it left; the event hands that on
+module _ (mixes : Bool) (n : ℕ) (vol temps : List Float) where
+  pub mixed_worked : mixes ≡ true → (answer : Result ℕ Refusal) (left : List Float) → Rearranged n vol temps answer left → (first : ℕ) → first ≡ number_in answer → (after : List Float) → after ≡ left → MixingWorked (event_mixing mixes n vol temps) temps first after
+  unfolding event_mixing
+  mixed_worked m answer left r first f after a = rw (m, f, a) record { draws = mixing_told answer _ r.answers; leaves = r.leaves }
+
+  -- no mixing draws no number
+  pub unmixed_worked : mixes ≡ false → (after : List Float) → after ≡ temps → MixingWorked (event_mixing mixes n vol temps) temps 0 after
+  unfolding event_mixing
+  unmixed_worked m after a = rw m record { draws = refl; leaves = a }
 
 module _ (c : Cylinder) (vol : List Float) (feed : Feed) where
   -- with no event left, the events have come to what they have come to

@@ -1,9 +1,8 @@
 // One draw event as a whole, and the events of a step in a row.
 ghost use Rattle.std.specs.Prelude.{◌≡◌, ◌≤◌};
 ghost use Rattle.mixing.specs.Limits.{max_layers};
-ghost use Rattle.refusals.specs.Refusals.{number_in};
-ghost use Rattle.draw_events.specs.Event.{event_mixing, event_finite, event_of, draw_all};
-ghost use Rattle.draw_events.specs.Lent.{MixingWorked, drawing_of, drawing_after};
+ghost use Rattle.draw_events.specs.Event.{event_finite, event_of, draw_all};
+ghost use Rattle.draw_events.specs.Lent.{drawing_of, drawing_after};
 ghost use Rattle.draw_events.specs.Kept.{IsSumOf};
 
 use crate::Totals;
@@ -16,33 +15,18 @@ use refusals::Refusal;
 // The most draw events that a step has.
 pub const MAX_EVENTS: usize = 64;
 
-// The mixing in which the event ends, if it does.
-fn mix_event(
-    mixes: bool,
-    tank: &LayeredCylinder,
-    temps: &mut [f64; MAX_LAYERS],
-) -> Result<(), Refusal>
-    requires { 1 ≤ tank.now.numbers.layers }
-    ensures { MixingWorked (event_mixing mixes tank.now.numbers.layers tank.now.vol temps.old)
-        temps.old (number_in result) temps.new }
-{
-    if mixes {
-        rearrange::rearrange_temperatures(tank.numbers.layers, &tank.vol, temps)?;
-    }
-    Ok(())
-}
-
 // The layers, and energy and volume used so far.
 #[tactic(auto, unfolding(crate::specs::Event::event_finite))]
 fn is_event_finite(tank: &LayeredCylinder, temps: &[f64; MAX_LAYERS], totals: &Totals) -> bool
     ensures { result ≡ event_finite tank.now.numbers temps.now totals.now }
 {
     cylinder::are_finite(tank.numbers.layers, temps)
-        && numeric::compare::is_finite(totals.energy)
-        && numeric::compare::is_finite(totals.used)
+        && cylinder::is_each_finite(&[totals.energy, totals.used])
 }
 
 // The draw, the refill and the mixing that a warm feed asks for. An event's energy and volume used are added to the step's when it ends, a refused one's too.
+// Kept: `1 ≤ layers`, at both functions: in `LayeredCylinder` it would be asked for draw, refill and losses too, whose public functions may ask no more.
+// Kept: tank, temperatures and totals beside one another: the tank is read, and the two that are written are lent by a step that keeps them apart.
 pub fn draw_event(
     tank: &LayeredCylinder,
     feed: Feed,
@@ -75,12 +59,10 @@ pub fn draw_event(
     };
     let mixes = refill::layers::calc_temps_after_extraction(tank, feed, temps, &mut held);
     // A mixing out of order comes before what is not finite.
-    mix_event(mixes, tank, temps)?;
-    if is_event_finite(tank, temps, totals) {
-        Ok(())
-    } else {
-        Err(Refusal::NotFinite)
+    if mixes {
+        rearrange::rearrange_temperatures(tank.numbers.layers, &tank.vol, temps)?;
     }
+    refusals::unless(is_event_finite(tank, temps, totals), Refusal::NotFinite)
 }
 
 // The events of these volumes, one after the other; a refused event ends them.

@@ -9,19 +9,20 @@ use mixing::limits::MAX_LAYERS;
 use numeric::sum2::Accumulator;
 
 // How many layers, from the bottom, and their sum.
-#[derive(Clone, Copy)]
+#[derive(Clone, Copy, Default)]
 pub struct KeptSum {
     pub layers: usize,
     pub sum: Accumulator,
 }
 
+// Kept: n beside the array, here and in `keep`: the sum that is kept is said of the first n places of the tank's list; a slice would be another list.
 fn sum_first(n: usize, vol: &[f64; MAX_LAYERS]) -> Accumulator
     requires { n ≤ max_layers }
     ensures { result ≡ sum_of_first vol.now n }
 {
     let mut a = Accumulator::start();
-    for k in 0..n {
-        a = a.add_term(vol[k]);
+    for v in &vol[..n] {
+        a = a.add_term(*v);
     }
     a
 }
@@ -32,10 +33,7 @@ impl KeptSum {
     pub fn none() -> KeptSum
         ensures { (xs : List Float) → IsSumOf xs result }
     {
-        KeptSum {
-            layers: 0,
-            sum: Accumulator::start(),
-        }
+        KeptSum::default()
     }
 
     // From now on the sum of the first n layers: the kept one, where it is of so many.
@@ -59,8 +57,8 @@ impl KeptSum {
         ensures { result ≡ volume_used tank.now.numbers held.now }
     {
         let mut a = self.sum;
-        for k in self.layers..tank.numbers.layers {
-            a = a.add_term(held[k]);
+        for h in &held[self.layers..tank.numbers.layers] {
+            a = a.add_term(*h);
         }
         tank.numbers.volume - a.total_of()
     }

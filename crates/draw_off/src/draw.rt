@@ -21,6 +21,7 @@ pub struct Drawn {
 }
 
 // A layer smaller than, or narrow-close to, the rest gives all.
+// Kept: a line, as `is_at_or_under` of heater_switches: each is named for what 01 says by it, and one for both only for how it is worked.
 #[tactic(auto, unfolding(crate::specs::Draw::gives_all))]
 fn does_give_all(held: f64, rest: f64) -> bool
     ensures { result ≡ gives_all held rest }
@@ -59,7 +60,7 @@ fn count_share(c: Cylinder, v: f64, t: f64, cool: f64, rest: f64, d: Drawn) -> D
         energy: d.energy + c.rho * c.cp * v * (t - cool),
         weighted: d.weighted + v * t,
         drawn: d.drawn + v,
-        untouched: d.untouched,
+        ..d
     }
 }
 
@@ -74,6 +75,7 @@ struct EventDraw<'a> {
 
 impl<'a> EventDraw<'a> {
     // The layer i gives its share, over water at cold(event volume).
+    // Kept: `i < max_layers`, here and in `draw_layer`: the loop knows it of its range; a type of places would be built at each pass, to say it again.
     fn draw_share(&self, i: usize, held: &mut [f64; MAX_LAYERS], d: Drawn) -> Drawn
         requires { i < max_layers }
         ensures { draw_of held.new result

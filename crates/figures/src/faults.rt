@@ -6,34 +6,30 @@ use std::io;
 use storage_tank::Stepped;
 use tank_model::{Step, TankDesign};
 
-const NAN: f64 = 0.0 / 0.0;
-
-const INFINITE: f64 = 1.0 / 0.0;
-
 // The faults of one heater.
 const OF_ONE: [SetPoints; 12] = [
-    SetPoints::Both(NAN, 60.0),
-    SetPoints::Both(50.0, NAN),
-    SetPoints::Both(50.0, INFINITE),
-    SetPoints::Both(INFINITE, 60.0),
-    SetPoints::Both(-INFINITE, 60.0),
-    SetPoints::Both(60.0, -INFINITE),
-    SetPoints::Lower(NAN),
-    SetPoints::Lower(INFINITE),
-    SetPoints::Upper(NAN),
-    SetPoints::Upper(INFINITE),
+    SetPoints::Both(f64::NAN, 60.0),
+    SetPoints::Both(50.0, f64::NAN),
+    SetPoints::Both(50.0, f64::INFINITY),
+    SetPoints::Both(f64::INFINITY, 60.0),
+    SetPoints::Both(f64::NEG_INFINITY, 60.0),
+    SetPoints::Both(60.0, f64::NEG_INFINITY),
+    SetPoints::Lower(f64::NAN),
+    SetPoints::Lower(f64::INFINITY),
+    SetPoints::Upper(f64::NAN),
+    SetPoints::Upper(f64::INFINITY),
     SetPoints::Lower(50.0),
     SetPoints::Both(60.0, 50.0),
 ];
 
 // The faults of two heaters: the first as given, and the second.
 const OF_TWO: [[SetPoints; 2]; 6] = [
-    [SetPoints::Both(60.0, 50.0), SetPoints::Lower(NAN)],
+    [SetPoints::Both(60.0, 50.0), SetPoints::Lower(f64::NAN)],
     [SetPoints::Neither, SetPoints::Both(60.0, 50.0)],
     [SetPoints::Lower(50.0), SetPoints::Both(60.0, 50.0)],
-    [SetPoints::Upper(INFINITE), SetPoints::Lower(50.0)],
+    [SetPoints::Upper(f64::INFINITY), SetPoints::Lower(50.0)],
     [SetPoints::Both(50.0, 60.0), SetPoints::Lower(50.0)],
-    [SetPoints::Upper(60.0), SetPoints::Both(NAN, 60.0)],
+    [SetPoints::Upper(60.0), SetPoints::Both(f64::NAN, 60.0)],
 ];
 
 // A step with set points for the first heaters; what stands past their number is not looked at.
@@ -65,7 +61,7 @@ fn between(rt: &impl Print, m: TankDesign, faults: &[[SetPoints; 2]]) -> io::Res
     let good = asked(m.heaters, 12.0, [SetPoints::Both(60.0, 60.0); 2]);
     let first = answers::first_step(rt, m, good)?;
     let cold = refused(rt, first, m.heaters, faults, 12.0)?;
-    let unknown = refused(rt, cold, m.heaters, faults, NAN)?;
+    let unknown = refused(rt, cold, m.heaters, faults, f64::NAN)?;
     answers::next_step(rt, unknown, good)?;
     Ok(())
 }
@@ -76,8 +72,8 @@ fn one_heater(rt: &impl Print) -> io::Result<()> {
     )?;
     between(
         rt,
-        tanks::with_heaters(tanks::plain(2, 32.0, 40.0), &[tanks::heater(160.0, 0.0)]),
-        &OF_ONE.map(|points| [points, SetPoints::Lower(NAN)]),
+        tanks::one_heater(),
+        &OF_ONE.map(|points| [points, SetPoints::Lower(f64::NAN)]),
     )
 }
 
@@ -87,7 +83,7 @@ fn two_heaters(rt: &impl Print) -> io::Result<()> {
     between(
         rt,
         tanks::with_heaters(
-            tanks::plain(2, 32.0, 40.0),
+            tanks::two_layers(),
             &[tanks::heater(160.0, 0.5), tanks::heater(160.0, 0.0)],
         ),
         &OF_TWO,

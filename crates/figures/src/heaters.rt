@@ -4,19 +4,14 @@ use set_points::SetPoints;
 use std::io;
 use tank_model::TankDesign;
 
-// Two layers at 40, and a heater of 160 kW at position 0.
-fn from_40() -> TankDesign {
-    tanks::with_heaters(tanks::plain(2, 32.0, 40.0), &[tanks::heater(160.0, 0.0)])
-}
-
 fn one_step(rt: &impl Print, points: SetPoints) -> io::Result<()> {
-    answers::first_step(rt, from_40(), tanks::heats(1, points))?;
+    answers::first_step(rt, tanks::one_heater(), tanks::heats(1, points))?;
     Ok(())
 }
 
 fn four_steps(rt: &impl Print, points: SetPoints) -> io::Result<()> {
     let a = tanks::heats(1, points);
-    let mut s = answers::first_step(rt, from_40(), a)?;
+    let mut s = answers::first_step(rt, tanks::one_heater(), a)?;
     for _ in 1..4 {
         s = answers::next_step(rt, s, a)?;
     }

@@ -21,8 +21,8 @@ pub fn figures(rt: &impl Print) -> io::Result<()> {
     two(rt, 50.0, 40.0, 16.0)?;
     two(rt, 20.0, 30.0, 16.0)?;
     show(rt, &mut [30.0, 40.0, 5.0], 16.0)?;
-    show(rt, &mut [0.0 / 0.0], 16.0)?;
-    two(rt, 0.0 / 0.0, 20.0, 16.0)?;
+    show(rt, &mut [f64::NAN], 16.0)?;
+    two(rt, f64::NAN, 20.0, 16.0)?;
     two(rt, 40.0, 40.00000001, 16.0)
 }
 
@@ -42,7 +42,7 @@ fn falling(rt: &impl Print, n: usize, layer_volume: f64) -> io::Result<()>
 // Layer volumes that refusal 3 stops, and the smallest that it lets pass; then no layers, one, 32 and 33.
 pub fn edges(rt: &impl Print) -> io::Result<()> {
     println!(rt; "# Mix: layer volumes, and 0, 1, 32 and 33 layers")?;
-    for layer_volume in [0.0, -0.0, -1.0, 0.0 / 0.0, 1.0 / 0.0, 5e-324] {
+    for layer_volume in [0.0, -0.0, -1.0, f64::NAN, f64::INFINITY, 5e-324] {
         two(rt, 50.0, 40.0, layer_volume)?;
     }
     falling(rt, 0, 16.0)?;

@@ -1,12 +1,13 @@
 // How doubles are printed: each as the 16 hexadecimal digits of its bits.
 use std::fmt;
+use std::num::f64_to_bits_with_nan;
 
 #[derive(Clone, Copy)]
 pub struct Bits(pub f64);
 
 impl fmt::Display for Bits {
     fn fmt<W: fmt::Write>(&self, f: &mut fmt::Formatter<W>) -> fmt::Result {
-        let bits = numeric::bits::bits_of(self.0);
+        let bits = f64_to_bits_with_nan(self.0);
         write!(f, "{bits:016x}")
     }
 }

@@ -8,60 +8,58 @@ use tank_model::{Step, TankDesign};
 // 1 + 2^-52.
 const JUST_ABOVE_ONE: f64 = 1.0000000000000002;
 
-// Two layers at 40.
-fn two() -> TankDesign {
-    tanks::plain(2, 32.0, 40.0)
+// Tanks, each made alone.
+fn make_each(rt: &impl Print, designs: [TankDesign; 4]) -> io::Result<()> {
+    for m in designs {
+        answers::make(rt, m)?;
+    }
+    Ok(())
 }
 
 // 3 and 4: each number that may be wrong, alone.
 fn make_numbers(rt: &impl Print) -> io::Result<()> {
+    let two = tanks::two_layers();
     println!(rt; "# 3: volume, density, specific heat, step length")?;
-    answers::make(rt, tanks::plain(2, 0.0, 40.0))?;
-    answers::make(
+    make_each(
         rt,
-        TankDesign {
-            rho: 0.0 / 0.0,
-            ..two()
-        },
-    )?;
-    answers::make(
-        rt,
-        TankDesign {
-            cp: 1.0 / 0.0,
-            ..two()
-        },
-    )?;
-    answers::make(
-        rt,
-        TankDesign {
-            timestep: -1.0,
-            ..two()
-        },
+        [
+            TankDesign { volume: 0.0, ..two },
+            TankDesign {
+                rho: f64::NAN,
+                ..two
+            },
+            TankDesign {
+                cp: f64::INFINITY,
+                ..two
+            },
+            TankDesign {
+                timestep: -1.0,
+                ..two
+            },
+        ],
     )?;
     println!(rt; "# 4: standby loss, initial, ambient; a standby loss of -0 is accepted")?;
-    answers::make(
+    make_each(
         rt,
-        TankDesign {
-            standby: -1.0,
-            ..two()
-        },
-    )?;
-    answers::make(rt, tanks::plain(2, 32.0, 0.0 / 0.0))?;
-    answers::make(
-        rt,
-        TankDesign {
-            ambient: -1.0 / 0.0,
-            ..two()
-        },
-    )?;
-    answers::make(
-        rt,
-        TankDesign {
-            standby: -0.0,
-            ..two()
-        },
-    )?;
-    Ok(())
+        [
+            TankDesign {
+                standby: -1.0,
+                ..two
+            },
+            TankDesign {
+                initial: f64::NAN,
+                ..two
+            },
+            TankDesign {
+                ambient: f64::NEG_INFINITY,
+                ..two
+            },
+            TankDesign {
+                standby: -0.0,
+                ..two
+            },
+        ],
+    )
 }
 
 fn make_heaters(rt: &impl Print) -> io::Result<()> {
@@ -76,7 +74,7 @@ fn make_heaters(rt: &impl Print) -> io::Result<()> {
         tanks::heater(-0.0, -0.0),
         tanks::heater_with(160.0, 1.0, 1.0),
     ] {
-        answers::make(rt, tanks::with_heaters(two(), &[h]))?;
+        answers::make(rt, tanks::with_heaters(tanks::two_layers(), &[h]))?;
     }
     Ok(())
 }
@@ -90,7 +88,7 @@ pub fn make(rt: &impl Print) -> io::Result<()> {
     for heaters in [0, 8, 9] {
         answers::make(
             rt,
-            tanks::with_alike(two(), heaters, tanks::heater(160.0, 0.0)),
+            tanks::with_alike(tanks::two_layers(), heaters, tanks::heater(160.0, 0.0)),
         )?;
     }
     make_numbers(rt)?;
@@ -110,13 +108,13 @@ fn stored(rt: &impl Print, wrong: StorageTank) -> io::Result<()> {
 
 // 1 to 5 for the tank of a step.
 fn step_tank(rt: &impl Print) -> io::Result<()> {
-    let t = answers::make(rt, two())?;
+    let t = answers::make(rt, tanks::two_layers())?;
     println!(rt; "# 1 to 5 of a stored tank")?;
     stored(rt, StorageTank { layers: 33, ..t })?;
     stored(rt, StorageTank { heaters: 9, ..t })?;
     stored(rt, StorageTank { volume: 0.0, ..t })?;
     let mut hot = t;
-    hot.temps[1] = 1.0 / 0.0;
+    hot.temps[1] = f64::INFINITY;
     stored(rt, hot)?;
     let mut heated = t;
     heated.heaters = 1;
@@ -126,18 +124,13 @@ fn step_tank(rt: &impl Print) -> io::Result<()> {
 
 // A step on two layers at 40 and no heaters.
 fn on_plain(rt: &impl Print, a: Step) -> io::Result<()> {
-    answers::first_step(rt, two(), a)?;
+    answers::first_step(rt, tanks::two_layers(), a)?;
     Ok(())
 }
 
-// Two layers at 40 and one heater.
-fn with_one() -> TankDesign {
-    tanks::with_heaters(two(), &[tanks::heater(160.0, 0.0)])
-}
-
-// A step of them, of so many set-point entries.
+// A step on two layers at 40 and one heater, of so many set-point entries.
 fn heated(rt: &impl Print, n: usize, points: SetPoints) -> io::Result<()> {
-    answers::first_step(rt, with_one(), tanks::heats(n, points))?;
+    answers::first_step(rt, tanks::one_heater(), tanks::heats(n, points))?;
     Ok(())
 }
 
@@ -147,9 +140,9 @@ fn step_arguments(rt: &impl Print) -> io::Result<()> {
     on_plain(rt, tanks::heats(1, SetPoints::Neither))?;
     heated(rt, 0, SetPoints::Neither)?;
     println!(rt; "# 7: the feed, and volumes")?;
-    on_plain(rt, tanks::draws(0.0 / 0.0, 1, 16.0))?;
+    on_plain(rt, tanks::draws(f64::NAN, 1, 16.0))?;
     on_plain(rt, tanks::draws(12.0, 1, -1.0))?;
-    on_plain(rt, tanks::draws(12.0, 1, 1.0 / 0.0))
+    on_plain(rt, tanks::draws(12.0, 1, f64::INFINITY))
 }
 
 fn step_set_points(rt: &impl Print) -> io::Result<()> {
@@ -158,7 +151,7 @@ fn step_set_points(rt: &impl Print) -> io::Result<()> {
     )?;
     heated(rt, 1, SetPoints::Lower(50.0))?;
     heated(rt, 1, SetPoints::Both(60.0, 50.0))?;
-    heated(rt, 1, SetPoints::Upper(1.0 / 0.0))
+    heated(rt, 1, SetPoints::Upper(f64::INFINITY))
 }
 
 // A step on four layers at 60 of a density.
@@ -185,7 +178,7 @@ pub fn step(rt: &impl Print) -> io::Result<()> {
 pub fn between(rt: &impl Print) -> io::Result<()> {
     println!(rt; "# A refused step between two accepted ones leaves tank and report as they were")?;
     let good = tanks::heats(1, SetPoints::Both(50.0, 60.0));
-    let first = answers::first_step(rt, with_one(), good)?;
+    let first = answers::first_step(rt, tanks::one_heater(), good)?;
     let second = answers::next_step(rt, first, tanks::heats(1, SetPoints::Lower(50.0)))?;
     answers::next_step(rt, second, good)?;
     Ok(())

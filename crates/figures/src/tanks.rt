@@ -1,7 +1,7 @@
 // What the figures are run on. Unless a figure says otherwise: density, specific heat and step length 1, standby loss 0, ambient 20, feed 12.
 use draw_events::event::MAX_EVENTS;
 use set_points::SetPoints;
-use tank_model::{Heater, Setting, Step, TankDesign};
+use tank_model::{Heater, Step, TankDesign};
 use working_order::MAX_HEATERS;
 
 // A heater with its thermostat in its own layer.
@@ -16,9 +16,8 @@ pub fn heater(rated: f64, position: f64) -> Heater {
 // One whose thermostat sits elsewhere.
 pub fn heater_with(rated: f64, position: f64, thermostat: f64) -> Heater {
     Heater {
-        rated,
-        position,
         thermostat: Some(thermostat),
+        ..heater(rated, position)
     }
 }
 
@@ -38,6 +37,16 @@ pub fn plain(layers: usize, volume: f64, initial: f64) -> TankDesign {
     }
 }
 
+// Two layers at 40.
+pub fn two_layers() -> TankDesign {
+    plain(2, 32.0, 40.0)
+}
+
+// They, and a heater of 160 kW at position 0.
+pub fn one_heater() -> TankDesign {
+    with_heaters(two_layers(), &[heater(160.0, 0.0)])
+}
+
 // With so many heaters, all alike.
 pub fn with_alike(m: TankDesign, heaters: usize, h: Heater) -> TankDesign {
     TankDesign {
@@ -47,12 +56,17 @@ pub fn with_alike(m: TankDesign, heaters: usize, h: Heater) -> TankDesign {
     }
 }
 
+// What is given, in the first places.
+fn put_first<T: Copy>(places: &mut [T], given: &[T]) {
+    for (place, x) in places.iter_mut().zip(given) {
+        *place = *x;
+    }
+}
+
 // With heaters as given.
 pub fn with_heaters(mut m: TankDesign, given: &[Heater]) -> TankDesign {
     m.heaters = given.len();
-    for (place, h) in m.fitted.iter_mut().zip(given) {
-        *place = *h;
-    }
+    put_first(&mut m.fitted, given);
     m
 }
 
@@ -63,9 +77,7 @@ pub fn draws(feed: f64, n: usize, volume: f64) -> Step {
         events: n,
         volumes: [volume; MAX_EVENTS],
         entries: 0,
-        settings: [Setting {
-            points: SetPoints::Neither,
-        }; MAX_HEATERS],
+        settings: [SetPoints::Neither; MAX_HEATERS],
     }
 }
 
@@ -76,15 +88,13 @@ pub fn heats(n: usize, points: SetPoints) -> Step {
         events: 0,
         volumes: [0.0; MAX_EVENTS],
         entries: n,
-        settings: [Setting { points }; MAX_HEATERS],
+        settings: [points; MAX_HEATERS],
     }
 }
 
 // With set points for the heaters as given.
 pub fn with_points(mut a: Step, given: &[SetPoints]) -> Step {
     a.entries = given.len();
-    for (setting, points) in a.settings.iter_mut().zip(given) {
-        setting.points = *points;
-    }
+    put_first(&mut a.settings, given);
     a
 }

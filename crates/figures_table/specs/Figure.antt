@@ -1,6 +1,7 @@
 -- States what a figure is (01, Figures to hold it against): arguments as a caller passes them, whole arrays with something in their unused places, and the
 -- whole of what the calls answer. It holds if that is what the calls' contracts say of these arguments.
-use Rattle.std.specs.Prelude.{ℕ, zero, suc, ◌≡◌, Bool, true, false, ◌&&◌, List, [], ◌∷◌, map, length, T, eqb, Some, None, Result, Ok, Err, Float}
+use Rattle.std.specs.Prelude.{ℕ, zero, suc, ◌≡◌, Bool, true, false, ◌&&◌, T, eqb, Float}
+use Rattle.std.specs.Prelude.{List, [], ◌∷◌, map, length, Some, None, Result, Ok, Err}
 use Rattle.std.specs.Float.{binary64, nan}
 use Rattle.std.specs.Float.Ieee.{round, neg}
 use Rattle.refusals.specs.declared.Refusal.{Refusal}
@@ -16,7 +17,6 @@ use Rattle.set_points.specs.declared.SetPoints.TheVariants.{Lower}
 use Rattle.working_order.specs.Order.{max_heaters}
 use Rattle.tank_model.specs.declared.Heater.{Heater}
 use Rattle.tank_model.specs.declared.TankDesign.{TankDesign}
-use Rattle.tank_model.specs.declared.Setting.{Setting}
 use Rattle.tank_model.specs.declared.Step.{Step}
 use Rattle.tank_model.specs.declared.HeaterLine.{HeaterLine}
 use Rattle.tank_model.specs.History.{step}
@@ -41,6 +41,7 @@ pub data Figure : Type 0 where
   mix : List Float → Float → ℕ → ℕ → List Float → Figure
 
 -- the arrays have the lengths that the calls take
+-- Kept: counts beside arrays of all places, as the calls take them: nothing is on a heap. A list in a figure is a tank's own, and `padded` fills its array.
 abbrev pub fits : List Step → Bool
 fits [] = true
 fits (a ∷ asked) = eqb (length a.volumes) max_events && eqb (length a.settings) max_heaters && fits asked
@@ -111,8 +112,8 @@ design c initial fitted = record {
   fitted = padded max_heaters fitted (record { rated = nan; position = whole 7; thermostat = Some nan });
 }
 
-abbrev pub settings : List SetPoints → List Setting
-settings ps = padded max_heaters (map (λ p. record { points = p }) ps) (record { points = Lower nan })
+abbrev pub settings : List SetPoints → List SetPoints
+settings ps = padded max_heaters ps (Lower nan)
 
 -- a step of these events, and set points for each heater
 abbrev pub asks : Float → List Float → List SetPoints → Step

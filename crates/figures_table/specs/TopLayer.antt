@@ -82,9 +82,12 @@ lid_works_last =
 
 -- ---- a tank as it is lent, of two layers at 40 and 44, with a heater at 1 that is off and not-a-number in its unused places: 16 kWh make 45 of 44
 
+abbrev lent_heaters : List Heater
+lent_heaters = padded max_heaters (heater (whole 16) one ∷ []) (heater_with nan nan nan)
+
 abbrev lent_at : ℕ → Bool → StorageTank
 lent_at top flag =
-    tank_with (layers_of_16 2) 1 (padded max_heaters (heater (whole 16) one ∷ []) (heater_with nan nan nan)) (padded max_layers (wholes (40 ∷ top ∷ [])) nan)
+    tank_with (layers_of_16 2) 1 lent_heaters (padded max_layers (wholes (40 ∷ top ∷ [])) nan)
     (padded max_heaters (flag ∷ []) true)
 
 abbrev lent_tank : Figure

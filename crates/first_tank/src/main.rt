@@ -12,7 +12,7 @@ use job_records::Before;
 use set_points::SetPoints;
 use std::io;
 use storage_tank::{Report, StorageTank};
-use tank_model::{Heater, Setting, Step, TankDesign};
+use tank_model::{Heater, Step, TankDesign};
 use working_order::MAX_HEATERS;
 
 // Two layers of 16 litres at 40 degrees, and a heater of 160 kW at the bottom.
@@ -40,18 +40,15 @@ fn make(rt: &impl Print) -> io::Result<StorageTank> {
 
 // An hour, twice, with set points of 50 and 60 degrees; then one whose feed probe has dropped out.
 fn step(rt: &impl Print, tank: StorageTank) -> io::Result<()> {
-    let setting = Setting {
-        points: SetPoints::Both(50.0, 60.0),
-    };
     let hour = Step {
         feed: 12.0,
         events: 0,
         volumes: [0.0; MAX_EVENTS],
         entries: 1,
-        settings: [setting; MAX_HEATERS],
+        settings: [SetPoints::Both(50.0, 60.0); MAX_HEATERS],
     };
     let dropped = Step {
-        feed: 0.0 / 0.0,
+        feed: f64::NAN,
         ..hour
     };
     let report = Report::default(); // before the first step: any will do

@@ -1,5 +1,5 @@
 // What the calls answer, in words and numbers, a line for each call and one for its layers.
-// Kept: a printing of its own beside that of figures, since this folder is copied to begin a program, and prints whole numbers in decimal.
+// Kept: apart from the printing of figures: they would share a few lines, for which a crate more is no plainer, and this folder is copied to begin a program.
 use job_records::{Reading, Record};
 use refusals::{Refusal, number_in};
 use set_points::SetPoints;
@@ -19,7 +19,7 @@ impl fmt::Display for Double {
                 return write!(f, "{n}");
             }
         }
-        let bits = numeric::bits::bits_of(x);
+        let bits = std::num::f64_to_bits_with_nan(x);
         write!(f, "{bits:016x}")
     }
 }
@@ -80,7 +80,7 @@ impl fmt::Display for Contents {
                 ", step, feed {}, volume {}{}",
                 Double(s.feed),
                 Double(s.volumes[0]),
-                Points(s.settings[0].points)
+                Points(s.settings[0])
             ),
         }
     }

@@ -10,6 +10,7 @@ use mixing::limits::MAX_LAYERS;
 use numeric::sum2::Accumulator;
 
 // Sum2 of volume × x over the layers from bottom to below end.
+// Kept: bottom and end beside the array, as of `fill_group`: a slice of the group would be cut at each call, and its sum said of another list.
 pub fn heat_at(vol: &[f64; MAX_LAYERS], bottom: usize, end: usize, x: f64) -> Accumulator
     requires { (bottom ≤ end) × (end ≤ max_layers) }
     ensures { result ≡ heat_sum vol.now x bottom end }

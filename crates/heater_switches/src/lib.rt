@@ -8,6 +8,8 @@ ghost use Rattle.heater_switches.specs.Switch.{at_or_under_lower, reached, switc
 
 use set_points::SetPoints;
 
+// Below or narrow-close.
+// Kept: a line, as `does_give_all` of draw_off: each is named for what 01 says by it, and one for both only for how it is worked.
 fn is_at_or_under(t: f64, lower: f64) -> bool
     ensures { result ≡ (lt t lower || narrow_close t lower) }
 {
@@ -25,6 +27,7 @@ fn is_at_or_under_lower(p: SetPoints, t: f64) -> bool
 }
 
 // Above or narrow-close.
+// Kept: a line, as `does_join` of plain_mixing: each is named for what 01 says by it, and one for both only for how it is worked.
 fn is_reached(t: f64, upper: f64) -> bool
     ensures { result ≡ reached t upper }
 {

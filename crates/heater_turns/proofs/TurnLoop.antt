@@ -1,9 +1,9 @@
 -- Proves how the loop over a step's turns works out the run of the turns (01, Step; Turn): one turn more, or the turn that ends the step.
 use Rattle.std.proofs.Common.{◌≡◌, refl, sym, ap, ◌∙◌, List, [], ◌∷◌, ℕ, zero, suc, ◌+◌, ◌<◌, ◌≤◌, arith, get_or, length, drop, drop_of_length-le, drop-cons, add-one, Float}
 use Rattle.cylinder.specs.declared.Cylinder.{Cylinder}
+use Rattle.set_points.specs.declared.SetPoints.{SetPoints}
 use Rattle.immersion_heater.specs.Turn.{turn_number}
 use Rattle.tank_model.specs.declared.Heater.{Heater}
-use Rattle.tank_model.specs.declared.Setting.{Setting}
 use Rattle.tank_model.specs.declared.TurnNotes.{TurnNotes}
 use Rattle.tank_model.specs.Fixed.{Placed, immersed, no_heater}
 use Rattle.tank_model.specs.Run.{end_by, Run, first, run}
@@ -30,7 +30,7 @@ unfolding with_turns
 turns_counted [] x = omega arith
 turns_counted (u ∷ us) x = let e = turns_counted us (with_turn u x) in omega arith
 
-module _ (c : Cylinder) (vol : List Float) (n : ℕ) (fitted : List Heater) (settings : List Setting) where
+module _ (c : Cylinder) (vol : List Float) (n : ℕ) (fitted : List Heater) (settings : List SetPoints) where
   -- the turn of the heater given as h
   abbrev pub turn_at : ℕ → Heating → Turn
   turn_at h s = turn_from c vol (immersion c.layers (get_or fitted h no_heater)) h (points_in settings h) s
@@ -65,9 +65,6 @@ module _ (c : Cylinder) (vol : List Float) (n : ℕ) (fitted : List Heater) (set
     pub ends : turns_from (drop k order) s x ≡ turns_from order s0 x0
 
   module _ (order : List ℕ) (s0 : Heating) (x0 : TurnNotes) where
-    pub none_worked : x0.worked ≡ 0 → TurnsSoFar order s0 x0 0 s0 x0
-    none_worked z = record { counted = z; ends = refl }
-
     module _ (k : ℕ) (s : Heating) (x : TurnNotes) (far : TurnsSoFar order s0 x0 k s x) where
       pub all_worked : length order ≤ k → turns_from order s0 x0 ≡ record { end = end_by 0 s; notes = x }
       unfolding run end_by with_turns

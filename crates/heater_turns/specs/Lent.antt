@@ -6,13 +6,12 @@ use Rattle.numeric.specs.Double.{zero_f}
 use Rattle.mixing.specs.Limits.{max_layers}
 use Rattle.cylinder.specs.declared.Cylinder.{Cylinder}
 use Rattle.set_points.specs.declared.SetPoints.{SetPoints}
+use Rattle.set_points.specs.declared.SetPoints.TheVariants.{Neither}
 use Rattle.immersion_heater.specs.declared.turn.Immersion.{Immersion}
 use Rattle.immersion_heater.specs.Turn.{turn, turn_number}
 use Rattle.tank_model.specs.declared.Heater.{Heater}
-use Rattle.tank_model.specs.declared.Setting.{Setting}
 use Rattle.tank_model.specs.declared.TurnNotes.{TurnNotes}
 use Rattle.tank_model.specs.Fixed.{placed, immersed, placed_heaters, Fixed}
-use Rattle.tank_model.specs.Checks.{no_setting}
 use Rattle.tank_model.specs.Run.{End, end_by, Run, run}
 use Rattle.tank_model.specs.Work.{Heating, Turn, after_turn, work_turn}
 use Rattle.heater_turns.specs.declared.TurnState.{TurnState}
@@ -27,19 +26,19 @@ abbrev pub fixed_lent : Cylinder → List Float → ℕ → List Heater → Fixe
 fixed_lent c vol n fitted = record { cylinder = c; vol = vol; heaters = placed_heaters n fitted }
 
 -- the set points of each heater
-abbrev pub points_in : List Setting → ℕ → SetPoints
-points_in settings h = (get_or settings h no_setting).points
+abbrev pub points_in : List SetPoints → ℕ → SetPoints
+points_in settings h = get_or settings h Neither
 
 -- before the first turn
 abbrev pub unheated : List Float → List Bool → TurnState
-unheated temps flags = record { temps = temps; charged = replicate max_layers zero_f; flags = flags; losses = zero_f }
+unheated temps flags = record { layers = record { temps = temps; charged = replicate max_layers zero_f }; flags = flags; losses = zero_f }
 
 abbrev pub uncounted : TurnNotes → TurnNotes
 uncounted x = record { lines = x.lines; courses = x.courses; worked = 0 }
 
 -- what heating has come to, as the code holds it
 abbrev pub heating_in : TurnState → TurnNotes → Heating
-heating_in s x = record { temps = s.temps; charged = s.charged; flags = s.flags; losses = s.losses; lines = x.lines }
+heating_in s x = record { temps = s.layers.temps; charged = s.layers.charged; flags = s.flags; losses = s.losses; lines = x.lines }
 
 -- ---- turns that are worked
 
@@ -72,6 +71,6 @@ abbrev pub turns_by : TurnNotes → Run Turn Heating → TurnsEnd
 turns_by x r = record { end = r.end; notes = with_turns r.parts x }
 
 -- the turns of the heaters hs are worked from s to s', or up to the one that ends them
-abbrev pub TurnsWorked : Fixed → List Setting → List ℕ → Heating → TurnNotes → ℕ → Heating → TurnNotes → Type 0
+abbrev pub TurnsWorked : Fixed → List SetPoints → List ℕ → Heating → TurnNotes → ℕ → Heating → TurnNotes → Type 0
 TurnsWorked f settings hs s x number s' x' =
     turns_by x (run (work_turn f (points_in settings)) hs s) ≡ record { end = end_by number s'; notes = x' }

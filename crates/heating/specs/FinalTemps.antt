@@ -51,7 +51,7 @@ module _ (c : Cylinder) (vol : List Float) (p : SetPoints) (layer : ℕ) (offers
 
 -- what the code answers: refusal 9 for a mixing out of order, else its rounds and the figures
 abbrev pub heat_answer : Mixing → Float → Float → Result HeatFigures Refusal
-heat_answer (sorted mixed k) adjusted losses = Ok (record { rounds = k; adjusted = adjusted; losses = losses })
+heat_answer (sorted mixed k) adjusted losses = Ok (record { rounds = k; figures = record { adjusted = adjusted; losses = losses } })
 heat_answer unsorted adjusted losses = Err OutOfOrder
 
 abbrev pub final_temps_answer : FinalTemps → Result HeatFigures Refusal

@@ -3,54 +3,49 @@ ghost use Rattle.std.specs.Prelude.{◌<◌};
 ghost use Rattle.heating.specs.Heat.{offers_to};
 ghost use Rattle.heating.specs.FinalTemps.{calc_final_temps, Calculated};
 
+use crate::heat::LayerOffer;
 use cylinder::LayeredCylinder;
-use mixing::limits::MAX_LAYERS;
 use refusals::Refusal;
 use set_points::SetPoints;
-use thermal_losses::HeaterLosses;
+use thermal_losses::{ChargedLayers, HeaterLosses, LossesAnswer};
 
-// What the heat came to: the mixing's rounds, the adjusted input and the losses.
+// What the heat came to: the mixing's rounds, and the figures of losses and limit.
 #[derive(Clone, Copy)]
 pub struct HeatFigures {
     pub rounds: usize,
-    pub adjusted: f64,
-    pub losses: f64,
+    pub figures: LossesAnswer,
 }
 
-// The heater's layer is offered `offer`, the others 0. `temps` holds the layers before, and at the end those that the heat leaves; `charged` what
-// earlier heaters charged each layer this step, and at the end this one's losses too. A refused mixing leaves both as they were.
+// The heater stands in the layer that is offered heat. `layers` holds the layers before, with what earlier heaters charged each this step, and at the end
+// those that the heat leaves, this heater's losses charged too. A refused mixing leaves them as they were.
 pub fn calc_final_temps(
     tank: &LayeredCylinder,
     p: SetPoints,
-    layer: usize,
-    offer: f64,
-    temps: &mut [f64; MAX_LAYERS],
-    charged: &mut [f64; MAX_LAYERS],
+    offer: LayerOffer,
+    layers: &mut ChargedLayers,
 ) -> Result<HeatFigures, Refusal>
-    requires { layer < tank.now.numbers.layers }
-    ensures { Calculated (calc_final_temps tank.now.numbers tank.now.vol p layer (offers_to layer offer) temps.old charged.old)
-        result temps.new charged.new }
+    requires { offer.layer < tank.now.numbers.layers }
+    ensures { Calculated (calc_final_temps tank.now.numbers tank.now.vol p offer.layer (offers_to offer.layer offer.energy)
+        layers.old.temps layers.old.charged)
+        result layers.new.temps layers.new.charged }
 {
-    let layers = tank.numbers.layers;
-    let before = *temps;
-    crate::heat::calc_temps_with_energy_input(tank, layer, offer, temps);
-    match rearrange::rearrange_temperatures(layers, &tank.vol, temps) {
+    let n = tank.numbers.layers;
+    let before = layers.temps;
+    crate::heat::calc_temps_with_energy_input(tank, offer, &mut layers.temps);
+    match rearrange::rearrange_temperatures(n, &tank.vol, &mut layers.temps) {
         Ok(rounds) => {
-            let input = crate::heat::energy_input(layers, layer, offer);
+            let input = offer.energy_input(n);
             let heater = HeaterLosses {
                 tank,
                 points: p,
+                layer: offer.layer,
                 before: &before,
             };
-            let done = heater.calc_temps_after_thermal_losses(layer, input, temps, charged);
-            Ok(HeatFigures {
-                rounds,
-                adjusted: done.adjusted,
-                losses: done.losses,
-            })
+            let figures = heater.calc_temps_after_thermal_losses(input, layers);
+            Ok(HeatFigures { rounds, figures })
         }
         Err(refusal) => {
-            *temps = before;
+            layers.temps = before;
             Err(refusal)
         }
     }

@@ -59,14 +59,14 @@ module _ (c : Cylinder) (vol : List Float) (h : Immersion) (p : SetPoints) (offe
   -- and where it is not, with the layers that it left
   abbrev pub passed_answer : HeatFigures → List Float → TurnAnswer
   passed_answer r temps =
-      let supplied = supply r.adjusted (max_energy c h) in
+      let supplied = supply r.figures.adjusted (max_energy c h) in
       record {
-        outcome = outcome_if (all_finite c.layers temps && finite r.adjusted && finite supplied && finite r.losses);
+        outcome = outcome_if (all_finite c.layers temps && finite r.figures.adjusted && finite supplied && finite r.figures.losses);
         ran = on;
         flag = switch_off p (get_or temps h.thermostat nan) on;
-        adjusted = r.adjusted;
+        adjusted = r.figures.adjusted;
         supplied = supplied;
-        losses = r.losses;
+        losses = r.figures.losses;
         rounds = r.rounds;
       }
 
@@ -76,8 +76,10 @@ module _ (c : Cylinder) (vol : List Float) (h : Immersion) (p : SetPoints) (offe
   passed_case (sorted mixed k) r e =
       let same : record {
         rounds = k;
-        adjusted = adjusted_input c vol p h.layer offers before earlier mixed;
-        losses = Losses.losses c vol p before mixed earlier;
+        figures = record {
+          adjusted = adjusted_input c vol p h.layer offers before earlier mixed;
+          losses = Losses.losses c vol p before mixed earlier;
+        };
       } ≡ r = cc in
       rw (← same)
   passed_case unsorted r e = grind arith

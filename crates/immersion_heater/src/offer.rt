@@ -7,8 +7,5 @@ ghost use Rattle.immersion_heater.specs.Offer.{offer};
 pub fn potential_energy_input(on: bool, energy: f64) -> f64
     ensures { result ≡ offer on energy }
 {
-    if on {
-        return 0.0 + energy;
-    }
-    0.0 + 0.0
+    0.0 + if on { energy } else { 0.0 }
 }

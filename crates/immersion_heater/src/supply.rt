@@ -8,9 +8,10 @@ fn energy_demand(adjusted: f64) -> f64
     ensures { result ≡ demand adjusted }
 {
     if numeric::close::is_wide_close(adjusted, 0.0) {
-        return 0.0;
+        0.0
+    } else {
+        adjusted
     }
-    adjusted
 }
 
 // `cap` is the most that the heater can supply: rated power × step length.

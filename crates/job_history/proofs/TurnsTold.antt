@@ -6,14 +6,14 @@ use Prim.Native.Nat.{ℕ, zero, suc, ◌+◌, ◌≤◌, ◌<◌}
 use native.Mathlib.Nat.{le_of_suc-le-suc, not-suc-le-zero}
 use native.Mathlib.Omega.{arith}
 use lib.ListN.{length, get_or, set, take, length-set, length-replicate, length-map, get_or-map}
-use lib.Seq.{length-take-le, get_or-take, get_or-set_same, get_or-set_other}
+use lib.Seq.{get_or-set_same, get_or-set_other}
 use Rattle.numeric.specs.Copy.{copied, copied_next}
 use Rattle.draw_events.specs.Event.{Event}
 use Rattle.immersion_heater.specs.Turn.{turn_number}
+use Rattle.set_points.specs.declared.SetPoints.{SetPoints}
 use Rattle.working_order.specs.Order.{max_heaters}
 use Rattle.working_order.proofs.Entries.{rising_length}
 use Rattle.tank_model.specs.declared.TurnNotes.{TurnNotes}
-use Rattle.tank_model.specs.declared.Setting.{Setting}
 use Rattle.tank_model.specs.declared.Step.{Step}
 use Rattle.tank_model.specs.Fixed.{Fixed, State, heater_of}
 use Rattle.tank_model.specs.Order.{working_order}
@@ -29,7 +29,8 @@ use Rattle.storage_tank.specs.declared.StorageTank.{StorageTank}
 use Rattle.storage_tank.specs.Tank.{fixed_in, state_in}
 use Rattle.storage_tank.specs.Answers.{work_of}
 use Rattle.job_history.specs.declared.TurnFact.{TurnFact}
-use Rattle.job_history.specs.Facts.{fact_of, facts_of, step_turns, no_fact, no_facts}
+use Rattle.job_history.specs.declared.Turns.{Turns}
+use Rattle.job_history.specs.Facts.{fact_of, facts_of, step_turns, no_fact, no_facts, turns_of}
 use Rattle.job_history.specs.Lent.{fact_in, facts_in, NotedTurns}
 
 -- notes with a place for each heater
@@ -211,20 +212,20 @@ module _ (t : StorageTank) (a : Step) (x : TurnNotes) (noted : NotedTurns t a x)
         ap (map (fact_in a.settings x)) (sym (first_of_first x.worked t.heaters order no_more) ∙ ap (take x.worked) e)
         ∙ rw (noted.many, noted.notes) (sym (work_told (fixed_in t) a (state_in t) (omega arith)))
 
--- ---- the loop that tells them, which has come to k
+-- ---- the loop that tells those of an order, which has come to k
 
-module _ (settings : List Setting) (x : TurnNotes) (count : ℕ) (order : List ℕ) (long : count ≤ length order) where
+module _ (settings : List SetPoints) (x : TurnNotes) (order : List ℕ) (few : length order ≤ max_heaters) where
   abbrev all : List TurnFact
-  all = facts_in settings x count order
+  all = map (fact_in settings x) order
 
-  pub all_many : length all ≡ count
-  all_many = length-map (take count order) _ ∙ length-take-le count order long
+  pub one_told : (k : ℕ) → k < length order → set (copied k all no_facts) k (fact_in settings x (get_or order k 0)) ≡ copied (k + 1) all no_facts
+  one_told k l =
+      let d = fact_in settings x 0 in
+      let many : length all ≡ length order = length-map order _ in
+      let places : length no_facts ≡ max_heaters = length-replicate max_heaters no_fact in
+      rw (← get_or-map (fact_in settings x) order k 0) (copied_next d k all no_facts (omega arith) (omega arith))
 
-  module _ (k : ℕ) (l : k < count) (few : count ≤ max_heaters) where
-    pub one_told : set (copied k all no_facts) k (fact_in settings x (get_or order k 0)) ≡ copied (k + 1) all no_facts
-    one_told =
-        let d = fact_in settings x 0 in
-        let here : get_or all k d ≡ fact_in settings x (get_or order k 0) =
-        get_or-map (fact_in settings x) (take count order) k 0 ∙ ap (fact_in settings x) (get_or-take count order k 0 l) in
-        let many : length no_facts ≡ max_heaters = length-replicate max_heaters no_fact in
-        ap (set (copied k all no_facts) k) (sym here) ∙ copied_next d k all no_facts (omega (arith, all_many)) (omega arith)
+  pub all_told : (facts : List TurnFact) → facts ≡ copied (length order) all no_facts → ◌≡◌ {A = Turns} (record { count = length order; facts = facts }) (turns_of all)
+  all_told facts e =
+      let many : length all ≡ length order = length-map order _ in
+      rw (e, many) refl

@@ -1,12 +1,12 @@
 -- States what is told of a step's turns by what its work noted (01, Turn).
 use Rattle.std.specs.Prelude.{ℕ, ◌≤◌, ◌≡◌, List, map, get_or, length, take}
+use Rattle.set_points.specs.declared.SetPoints.{SetPoints}
+use Rattle.set_points.specs.declared.SetPoints.TheVariants.{Neither}
 use Rattle.working_order.specs.Order.{max_heaters}
 use Rattle.tank_model.specs.declared.HeaterLine.{HeaterLine}
-use Rattle.tank_model.specs.declared.Setting.{Setting}
 use Rattle.tank_model.specs.declared.Step.{Step}
 use Rattle.tank_model.specs.declared.TurnCourse.{TurnCourse}
 use Rattle.tank_model.specs.declared.TurnNotes.{TurnNotes}
-use Rattle.tank_model.specs.Checks.{no_setting}
 use Rattle.tank_model.specs.Work.{zero_line}
 use Rattle.heater_turns.specs.Notes.{no_course, no_notes, with_turns}
 use Rattle.storage_tank.specs.declared.Report.{Report}
@@ -18,11 +18,11 @@ use Rattle.job_history.specs.declared.TurnFact.{TurnFact}
 use Rattle.job_history.specs.declared.Turns.{Turns}
 use Rattle.job_history.specs.Facts.{step_turns, turns_of}
 
--- the turn of the heater given as h, which had the setting e and left the line l and the course c
-abbrev pub fact_by : ℕ → Setting → HeaterLine → TurnCourse → TurnFact
-fact_by h e l c = record {
+-- the turn of the heater given as h, which had the set points p and left the line l and the course c
+abbrev pub fact_by : ℕ → SetPoints → HeaterLine → TurnCourse → TurnFact
+fact_by h p l c = record {
   heater = h;
-  points = e.points;
+  points = p;
   start = c.start;
   finish = c.finish;
   ran = c.ran;
@@ -31,11 +31,11 @@ fact_by h e l c = record {
   rounds = l.rounds;
 }
 
-abbrev pub fact_in : List Setting → TurnNotes → ℕ → TurnFact
-fact_in settings x h = fact_by h (get_or settings h no_setting) (get_or x.lines h zero_line) (get_or x.courses h no_course)
+abbrev pub fact_in : List SetPoints → TurnNotes → ℕ → TurnFact
+fact_in settings x h = fact_by h (get_or settings h Neither) (get_or x.lines h zero_line) (get_or x.courses h no_course)
 
 -- the turns of the first `count` heaters of an order
-abbrev pub facts_in : List Setting → TurnNotes → ℕ → List ℕ → List TurnFact
+abbrev pub facts_in : List SetPoints → TurnNotes → ℕ → List ℕ → List TurnFact
 facts_in settings x count order = map (fact_in settings x) (take count order)
 
 -- what was noted of a step's turns, and how many there were

@@ -11,7 +11,8 @@ use working_order::MAX_HEATERS;
 
 // What is told of a turn: whose it was, its set points, its thermostat layer where it began and where it ended, whether the heater ran on, its flag at the
 // end, what it supplied, and the rounds of its mixing (0 where that was refused).
-#[derive(Clone, Copy)]
+// Kept: named one by one, though a turn's course and a report's line have six of them: a turn's line tells these eight, and no others of either.
+#[derive(Clone, Copy, Default)]
 pub struct TurnFact {
     pub heater: usize,
     pub points: SetPoints,
@@ -24,7 +25,8 @@ pub struct TurnFact {
 }
 
 // The turns of a step in working order, as far as it got; the places past their count are of no turn.
-#[derive(Clone, Copy)]
+// Kept: a count beside an array, by the rule that nothing is on a heap.
+#[derive(Clone, Copy, Default)]
 pub struct Turns {
     pub count: usize,
     pub facts: [TurnFact; MAX_HEATERS],

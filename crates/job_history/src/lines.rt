@@ -1,18 +1,18 @@
 // The lines of a step's history.
-ghost use Rattle.std.specs.Prelude.{◌+◌, ◌*◌, ◌≤◌};
+// Kept: the room is asked of each call and `within` told by each: each text takes some, so a type that kept it would have to be told again after each.
+ghost use Rattle.std.specs.Prelude.{◌+◌, ◌≤◌};
 ghost use Rattle.refusals.specs.Refusals.{number_in};
 ghost use Rattle.working_order.specs.Order.{max_heaters};
 ghost use Rattle.job_lines.specs.Put.{Writes, PutWhole};
-ghost use Rattle.job_lines.specs.Lengths.{double_bytes, head_bytes, max_place};
-ghost use Rattle.job_history.specs.Lines.{point_text, points_text, course_text, outcome_text, turn_line, turn_lines, history_lines};
+ghost use Rattle.job_lines.specs.Lengths.{double_bytes, max_place};
+ghost use Rattle.job_history.specs.Lines.{point_text, points_text, course_text, outcome_text, turn_line, history_lines};
 ghost use Rattle.job_history.specs.Lengths.{points_bytes, course_bytes, outcome_bytes, turn_bytes};
 
 use crate::{TurnFact, Turns};
 use job_lines::lines::put_head;
-use job_lines::text::Writer;
+use job_lines::text::{Put, Writer, put_all};
 use refusals::Refusal;
 use set_points::SetPoints;
-use working_order::MAX_HEATERS;
 
 // A space, and the set point or a hyphen.
 fn put_point(w: &mut Writer, point: Option<f64>)
@@ -65,23 +65,15 @@ fn put_outcome(w: &mut Writer, x: TurnFact)
     w.byte(b'\n');
 }
 
-fn put_turn_line(w: &mut Writer, x: TurnFact)
-    requires { w.old.at + turn_bytes ≤ max_place }
-    ensures puts { Writes w.old (turn_line x) w.new }
-    ensures within { w.new.at ≤ w.old.at + turn_bytes }
-{
-    put_course(w, x);
-    put_outcome(w, x);
-}
+impl Put for TurnFact {
+    ghost text = { turn_line };
 
-// The lines of the first `count` turns.
-fn put_turn_lines(w: &mut Writer, count: usize, facts: [TurnFact; MAX_HEATERS])
-    requires { (count ≤ max_heaters) × (w.old.at ≤ head_bytes + 1) }
-    ensures puts { Writes w.old (turn_lines count facts) w.new }
-    ensures within { w.new.at ≤ w.old.at + turn_bytes * count }
-{
-    for k in 0..count {
-        put_turn_line(w, facts[k]);
+    ghost most = { turn_bytes };
+
+    // The line of a turn.
+    fn put(&self, w: &mut Writer) {
+        put_course(w, *self);
+        put_outcome(w, *self);
     }
 }
 
@@ -93,6 +85,6 @@ pub fn history_lines(buf: &mut [u8], index: usize, outcome: Result<(), Refusal>,
     let mut w = Writer { buf, at: 0 };
     put_head(&mut w, index, outcome);
     w.byte(b'\n');
-    put_turn_lines(&mut w, r.count, r.facts);
+    put_all(&mut w, &r.facts[..r.count]);
     w.at
 }

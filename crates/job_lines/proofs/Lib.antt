@@ -1,4 +1,6 @@
 -- The lemmas that the proofs of `job_lines` share.
 pub mod Digits
-pub mod Ordered
+pub mod Widths
+pub mod First
 pub mod Counts
+pub mod Texts

@@ -4,7 +4,7 @@ use Rattle.std.proofs.Common.{add-one}
 use Rattle.std.specs.Float.{nan}
 use Rattle.mixing.specs.Limits.{max_layers}
 use Rattle.tank_model.specs.declared.HeaterLine.{HeaterLine}
-use Rattle.job_lines.specs.declared.Totals.{Totals}
+use Rattle.storage_tank.specs.declared.Report.{Report}
 use Rattle.job_lines.specs.Text.{newline, number_text, double_text}
 
 -- a count of places, of which there are no more than `most`
@@ -30,7 +30,7 @@ unfoldable pub head_text : ℕ → ℕ → List ℕ
 head_text index number = 83 ∷ number_text index ++ number_text number
 
 -- the four totals, and the line's end
-unfoldable pub totals_text : Totals → List ℕ
+unfoldable pub totals_text : Report → List ℕ
 totals_text r = double_text r.energy ++ double_text r.used ++ double_text r.average ++ double_text r.recoverable ++ (newline ∷ [])
 
 abbrev pub layer_text : List Float → ℕ → List ℕ
@@ -73,6 +73,6 @@ unfoldable pub refused_lines : ℕ → ℕ → ℕ → List Float → List ℕ
 refused_lines index number layers temps = head_text index number ++ (newline ∷ []) ++ layers_line (at_most layers max_layers) temps
 
 -- an accepted step prints its totals too, and the line of each heater, in an order
-unfoldable pub accepted_lines : ℕ → Totals → ℕ → List Float → ℕ → List ℕ → List HeaterLine → List ℕ
-accepted_lines index totals layers temps heaters order lines =
-    head_text index 0 ++ totals_text totals ++ layers_line (at_most layers max_layers) temps ++ heater_lines heaters order lines
+unfoldable pub accepted_lines : ℕ → Report → ℕ → List Float → ℕ → List ℕ → List ℕ
+accepted_lines index r layers temps heaters order =
+    head_text index 0 ++ totals_text r ++ layers_line (at_most layers max_layers) temps ++ heater_lines heaters order r.lines

@@ -26,6 +26,11 @@ pub record Writes (x : Writer) (text : List ℕ) (y : Writer) : Type 0 where
   pub same : y.buf.ghost_name ≡ x.buf.ghost_name
   pub puts : Put x.buf.now x.at text y.buf.now y.at
 
+-- the texts of several things, one after the other
+unfoldable pub texts : {A : Type 0} → (A → List ℕ) → List A → List ℕ
+texts text [] = []
+texts text (x ∷ xs) = text x ++ texts text xs
+
 pub sets_append : (b : List ℕ) (at : ℕ) (t u : List ℕ) → sets b at (t ++ u) ≡ sets (sets b at t) (at + length t) u
 sets_append b at [] u = rw add-zero
 sets_append b at (x ∷ t) u =

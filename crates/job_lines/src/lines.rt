@@ -1,17 +1,19 @@
 // The lines S, L, H and E.
-ghost use Rattle.std.specs.Prelude.{ℕ, ◌+◌, ◌*◌, ◌≤◌, ◌<◌, get_or};
+// Kept: an array of layers and a count of any size, as a tank has them: 01 cuts the count here, and a slice would ask each caller to cut it.
+// Kept: the room is asked of each call and `within` told by each: each text takes some, so a type that kept it would have to be told again after each.
+ghost use Rattle.std.specs.Prelude.{ℕ, ◌+◌, ◌*◌, ◌≤◌, ◌<◌, get_or, length};
 ghost use Rattle.refusals.specs.Refusals.{number_of, number_in};
 ghost use Rattle.mixing.specs.Limits.{max_layers};
 ghost use Rattle.working_order.specs.Order.{max_heaters};
 ghost use Rattle.job_lines.specs.Put.{Writes, PutWhole};
 ghost use Rattle.job_lines.specs.Lengths.{double_bytes, head_bytes, totals_bytes, layers_bytes, heater_bytes, before_heaters, max_text, max_place};
-ghost use Rattle.job_lines.specs.Lines.{head_text, totals_text, layers_text, layers_line, heater_line, heater_lines};
+ghost use Rattle.job_lines.specs.Lines.{head_text, totals_text, layers_line, heater_line, heater_lines};
 ghost use Rattle.job_lines.specs.Lines.{refusal_line, refused_lines, accepted_lines};
 
-use crate::Totals;
-use crate::text::Writer;
+use crate::text::{Writer, put_all};
 use mixing::limits::MAX_LAYERS;
 use refusals::{Refusal, number_in};
+use storage_tank::Report;
 use tank_model::HeaterLine;
 use working_order::MAX_HEATERS;
 
@@ -23,41 +25,30 @@ pub fn put_head(w: &mut Writer, index: usize, outcome: Result<(), Refusal>)
 {
     w.byte(b'S');
     w.number(index);
-    w.number(number_in(&outcome) as usize);
+    w.number(usize::from(number_in(&outcome)));
 }
 
 // The four totals, and the line's end.
-fn put_totals(w: &mut Writer, totals: Totals)
+fn put_totals(w: &mut Writer, r: &Report)
     requires { w.old.at ≤ head_bytes }
-    ensures puts { Writes w.old (totals_text totals) w.new }
+    ensures puts { Writes w.old (totals_text r.now) w.new }
     ensures within { w.new.at ≤ w.old.at + totals_bytes }
 {
-    w.double(totals.energy);
-    w.double(totals.used);
-    w.double(totals.average);
-    w.double(totals.recoverable);
+    w.double(r.energy);
+    w.double(r.used);
+    w.double(r.average);
+    w.double(r.recoverable);
     w.byte(b'\n');
 }
 
-// The first n layers, each after a space.
-// Kept: the loops of layers, heaters and turns have one line each, and a function of what is put would be no shorter at its calls.
-fn put_layers(w: &mut Writer, n: usize, temps: &[f64; MAX_LAYERS])
-    requires { (n ≤ max_layers) × (w.old.at ≤ head_bytes + totals_bytes + 1) }
-    ensures puts { Writes w.old (layers_text n temps.now) w.new }
-    ensures within { w.new.at ≤ w.old.at + double_bytes * n }
-{
-    for k in 0..n {
-        w.double(temps[k]);
-    }
-}
-
-fn put_layers_line(w: &mut Writer, n: usize, temps: &[f64; MAX_LAYERS])
-    requires { (n ≤ max_layers) × (w.old.at ≤ head_bytes + totals_bytes) }
-    ensures puts { Writes w.old (layers_line n temps.now) w.new }
+// L, and layers.
+fn put_layers_line(w: &mut Writer, temps: &[f64])
+    requires { (length temps.now ≤ max_layers) × (w.old.at ≤ head_bytes + totals_bytes) }
+    ensures puts { Writes w.old (layers_line (length temps.now) temps.now) w.new }
     ensures within { w.new.at ≤ w.old.at + layers_bytes }
 {
     w.byte(b'L');
-    put_layers(w, n, temps);
+    put_all(w, temps);
     w.byte(b'\n');
 }
 
@@ -75,19 +66,17 @@ fn put_heater_line(w: &mut Writer, line: HeaterLine)
     w.byte(b'\n');
 }
 
-// The lines of the first n heaters of an order.
-fn put_heater_lines(
-    w: &mut Writer,
-    n: usize,
-    order: [usize; MAX_HEATERS],
-    lines: [HeaterLine; MAX_HEATERS],
-)
-    requires { (n ≤ max_heaters) × (w.old.at ≤ before_heaters) × ((k : ℕ) → k < n → get_or order k 0 < max_heaters) }
-    ensures puts { Writes w.old (heater_lines n order lines) w.new }
-    ensures within { w.new.at ≤ w.old.at + heater_bytes * n }
+// The lines of heaters, in an order.
+// Kept: a loop beside that of `put_all`: over an iterator its promise would speak of all that one may yield, which is longer than these two lines.
+// Kept: `length ≤ max_heaters`, and each entry below it, asked: an entry indexes the lines, and a type for an order would be taken apart at each.
+fn put_heater_lines(w: &mut Writer, order: &[usize], lines: &[HeaterLine; MAX_HEATERS])
+    requires { (length order.now ≤ max_heaters) × (w.old.at ≤ before_heaters)
+        × ((k : ℕ) → k < length order.now → get_or order.now k 0 < max_heaters) }
+    ensures puts { Writes w.old (heater_lines (length order.now) order.now lines.now) w.new }
+    ensures within { w.new.at ≤ w.old.at + heater_bytes * length order.now }
 {
-    for k in 0..n {
-        put_heater_line(w, lines[order[k]]);
+    for h in order {
+        put_heater_line(w, lines[*h]);
     }
 }
 
@@ -98,7 +87,7 @@ pub fn refusal_line(buf: &mut [u8], refusal: Refusal, offset: usize) -> usize
     let number = refusal.number();
     let mut w = Writer { buf, at: 0 };
     w.byte(b'E');
-    w.number(number as usize);
+    w.number(usize::from(number));
     w.number(offset);
     w.byte(b'\n');
     w.at
@@ -117,7 +106,7 @@ pub fn refused_lines(
     let mut w = Writer { buf, at: 0 };
     put_head(&mut w, index, Err(refusal));
     w.byte(b'\n');
-    put_layers_line(&mut w, layers.min(MAX_LAYERS), temps);
+    put_layers_line(&mut w, &temps[..layers.min(MAX_LAYERS)]);
     w.at
 }
 
@@ -125,20 +114,18 @@ pub fn refused_lines(
 pub fn accepted_lines(
     buf: &mut [u8],
     index: usize,
-    totals: Totals,
+    report: &Report,
     layers: usize,
     temps: &[f64; MAX_LAYERS],
-    heaters: usize,
-    order: [usize; MAX_HEATERS],
-    lines: [HeaterLine; MAX_HEATERS],
+    order: &[usize],
 ) -> usize
-    requires { (heaters ≤ max_heaters) × ((k : ℕ) → k < heaters → get_or order k 0 < max_heaters) }
-    ensures { PutWhole (accepted_lines index totals layers temps.now heaters order lines) buf.old buf.new result }
+    requires { (length order.now ≤ max_heaters) × ((k : ℕ) → k < length order.now → get_or order.now k 0 < max_heaters) }
+    ensures { PutWhole (accepted_lines index report.now layers temps.now (length order.now) order.now) buf.old buf.new result }
 {
     let mut w = Writer { buf, at: 0 };
     put_head(&mut w, index, Ok(()));
-    put_totals(&mut w, totals);
-    put_layers_line(&mut w, layers.min(MAX_LAYERS), temps);
-    put_heater_lines(&mut w, heaters, order, lines);
+    put_totals(&mut w, report);
+    put_layers_line(&mut w, &temps[..layers.min(MAX_LAYERS)]);
+    put_heater_lines(&mut w, order, &report.lines);
     w.at
 }

@@ -1,6 +1,6 @@
 -- States a whole job (01, Job): records read one after the other, the tank made, its heaters added, its steps run, and the lines that each record prints.
-use Rattle.std.specs.Prelude.{ℕ, zero, suc, ◌+◌, ◌*◌, ◌≤◌, ◌<◌, Bool, true, false, cond, not, ◌&&◌, ◌≡◌, List, [], ◌++◌, eqb, length, set, replicate}
-use Rattle.std.specs.Prelude.{Result, Ok, Err}
+use Rattle.std.specs.Prelude.{ℕ, zero, suc, ◌+◌, ◌*◌, ◌≤◌, ◌<◌, Bool, true, false, cond, not, ◌&&◌, ◌≡◌}
+use Rattle.std.specs.Prelude.{List, [], ◌++◌, eqb, length, set, replicate, Result, Ok, Err}
 use Rattle.numeric.specs.Double.{zero_f}
 use Rattle.refusals.specs.declared.Refusal.{Refusal}
 use Rattle.refusals.specs.Refusals.{number_of, number_in}

@@ -5,15 +5,10 @@ use Rattle.refusals.specs.Refusals.{number_in}
 use Rattle.working_order.specs.Order.{max_heaters}
 use Rattle.tank_model.specs.Fixed.{placed_heaters, fixed_by}
 use Rattle.tank_model.specs.Order.{working_order}
-use Rattle.storage_tank.specs.declared.Report.{Report}
 use Rattle.storage_tank.specs.declared.StorageTank.{StorageTank}
 use Rattle.storage_tank.specs.declared.Stepped.{Stepped}
 use Rattle.storage_tank.specs.Tank.{fixed_in}
-use Rattle.job_lines.specs.declared.Totals.{Totals}
 use Rattle.job_lines.specs.Lines.{at_most, refused_lines, accepted_lines}
-
-abbrev pub totals_of : Report → Totals
-totals_of r = record { energy = r.energy; used = r.used; average = r.average; recoverable = r.recoverable }
 
 -- the heaters in working order; a tank says of no more than it has places for
 abbrev pub shown_heaters : StorageTank → ℕ
@@ -27,7 +22,7 @@ unfoldable pub step_lines : ℕ → Stepped → List ℕ
 step_lines index s =
     let t = s.tank in
     cond (eqb (number_in s.outcome) 0)
-    (accepted_lines index (totals_of s.report) t.layers t.temps (shown_heaters t) (shown_order t) s.report.lines)
+    (accepted_lines index s.report t.layers t.temps (shown_heaters t) (shown_order t))
     (refused_lines index (number_in s.outcome) t.layers t.temps)
 
 -- the order is the step's own, for a tank whose heaters have places

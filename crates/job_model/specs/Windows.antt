@@ -1,5 +1,6 @@
 -- States a job that is read window by window (01, Job), for an input that is too long to be held at once: what each window prints, and all of them together.
-use Rattle.std.specs.Prelude.{ℕ, zero, suc, ◌+◌, ◌≤◌, ◌<◌, Bool, true, false, cond, not, ◌&&◌, List, [], ◌++◌, ◌≡◌, Result, Ok, Err, MatchResult, length}
+use Rattle.std.specs.Prelude.{ℕ, zero, suc, ◌+◌, ◌≤◌, ◌<◌, Bool, true, false, cond, not, ◌&&◌, ◌≡◌}
+use Rattle.std.specs.Prelude.{List, [], ◌++◌, length, Result, Ok, Err, MatchResult}
 use Rattle.job_records.specs.Windows.{Window, is_ready}
 use Rattle.job_model.specs.declared.Job.{Job}
 use Rattle.job_model.specs.declared.Ran.{Ran}

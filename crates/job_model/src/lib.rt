@@ -10,8 +10,7 @@ use tank_model::TankDesign;
 
 // Where a job stands: how many bytes of the input came before those that are lent, and the next record's start among these; whether the job has ended, whether
 // a tank came, how many steps came, the tank's record and heaters as given, the tank, and the report of its last accepted step.
-// Kept: `ended` stands beside values that hold in both cases. Before a tank comes, its values are zeros and `has_tank` says so; an Option of them would add a
-// case to each record that the reader has ruled out.
+// Kept: `ended` and `has_tank` beside values that hold in both cases, zeros before a tank: Options would add cases that the reader has ruled out.
 #[derive(Clone, Copy)]
 pub struct Job {
     pub before: usize,
@@ -38,6 +37,7 @@ impl Job {
 }
 
 // A job after a record, and the length of the lines that the record printed.
+// Kept: the length of the whole text, which may be more than the buffer holds: a slice of the buffer could not tell it.
 #[derive(Clone, Copy)]
 pub struct Printed {
     pub job: Job,
@@ -45,6 +45,7 @@ pub struct Printed {
 }
 
 // What a step answers, and the length of the lines that were printed of it.
+// Kept: that length, as in `Printed`: a slice of the buffer could not tell more than what fits there.
 #[derive(Clone, Copy)]
 pub struct PrintedStep {
     pub stepped: Stepped,

@@ -10,6 +10,7 @@ use refusals::Refusal;
 use working_order::MAX_HEATERS;
 
 // A record that is cut short is refused before its kind is looked at.
+#[tactic(auto, unfolding(job_records::specs::Records::content_at))]
 fn content_at(s: &[u8], at: usize, before: Before) -> Result<Record, Refusal>
     ensures { result ≡ content_at s.now at before }
 {
@@ -24,6 +25,7 @@ fn content_at(s: &[u8], at: usize, before: Before) -> Result<Record, Refusal>
 }
 
 // The call: the record at a position, by what came before it.
+#[tactic(auto, unfolding(job_records::specs::Records::content_at))]
 pub fn read_record(s: &[u8], at: usize, before: Before) -> Reading
     ensures { RecordRead s.now at before result }
 {

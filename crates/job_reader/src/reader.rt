@@ -1,4 +1,4 @@
-// The reader that carries its bytes: the lent slice and a place in it. Each function takes it apart and calls a function on the slice and the number.
+// The reader that carries its bytes: the lent slice and a place in it.
 ghost use Rattle.std.specs.Prelude.{◌≡◌};
 ghost use Rattle.job_records.specs.ReadValues.{RecordRead};
 ghost use Rattle.job_reader.specs.Reader.{new_reader, bytes_left, NextRead};
@@ -9,13 +9,6 @@ use job_records::{Before, Reading};
 pub struct JobReader<'a> {
     pub bytes: &'a [u8],
     pub at: usize,
-}
-
-// How many bytes stand at a place and after it: none if it is past the end.
-fn bytes_left(s: &[u8], at: usize) -> usize
-    ensures { result ≡ bytes_left s.now at }
-{
-    s.len().saturating_sub(at)
 }
 
 impl<'a> JobReader<'a> {
@@ -35,11 +28,11 @@ impl<'a> JobReader<'a> {
         r
     }
 
-    // How many bytes are left to read.
+    // How many bytes are left to read: none if its place is past the end.
     pub fn left(self) -> usize
         ensures { result ≡ bytes_left self.entry.bytes.now self.entry.at }
     {
-        bytes_left(self.bytes, self.at)
+        self.bytes.len().saturating_sub(self.at)
     }
 }
 

@@ -5,7 +5,6 @@ use mathlib.Core.List.{List}
 use mathlib.Core.Path.{◌≡◌, refl, ◌∙◌}
 use lib.Ieee.{Float}
 use Rattle.numeric.specs.Tabulate.{tabulate_same}
-use Rattle.tank_model.specs.declared.Setting.{Setting}
 use Rattle.job_records.specs.Bytes.{byte_at}
 use Rattle.job_records.specs.Fields.{filled, no_settings, points_of, points_at, setting_at, settings_at}
 use Rattle.job_records.specs.Values.{no_entries, entry_of, entries_of}
@@ -24,5 +23,5 @@ entry_of_lem (suc (suc (suc (suc n)))) lower upper h = absurd (omega arith)
 pub entries_read : (s : List ℕ) (at n : ℕ) → ((k : ℕ) → k < n → byte_at s (at + 17 * k) ≤ 3) → entries_of (settings_at s at n) ≡ filled (entry_at s at) n no_entries
 unfolding entry_of points_at settings_at
 entries_read s at n b =
-    map_filled (λ (x : Setting). entry_of x.points) (setting_at s at) n no_settings
-    ∙ rw (tabulate_same (λ (k : ℕ). entry_of (setting_at s at k).points) (entry_at s at) n 0 (λ k l u. entry_of_lem _ _ _ (b k (omega arith))))
+    map_filled entry_of (setting_at s at) n no_settings
+    ∙ rw (tabulate_same (λ (k : ℕ). entry_of (setting_at s at k)) (entry_at s at) n 0 (λ k l u. entry_of_lem _ _ _ (b k (omega arith))))

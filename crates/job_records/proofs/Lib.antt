@@ -1,4 +1,5 @@
 -- The laws of a job's records, and the lemmas that they share.
+pub mod Chunk
 pub mod Filling
 pub mod ReadLaws
 pub mod ReaderLaws

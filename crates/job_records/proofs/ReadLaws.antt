@@ -19,7 +19,6 @@ use Rattle.job_records.specs.Bytes.{byte_at, u16_at, u32_at}
 use Rattle.job_records.specs.Fields.{is_presence_at}
 use Rattle.job_records.specs.Records.{read_to, refused_at, tank_record_at, heater_record_at, reading_at, tank_at, heater_at, step_at, by_kind, is_whole, content_at, read_record, entries_at, step_size_at}
 use Rattle.job_records.specs.declared.Record.TheVariants.{Tank, Heater as HeaterCase, Step as StepCase}
-use Rattle.refusals.specs.Refusals.{number_in}
 use Rattle.refusals.proofs.Numbers.{refusal_with-number}
 use Rattle.job_records.specs.Values.{values_of, content_with}
 use Rattle.job_records.specs.WellFormed.{Stands, WellFormed, tank_record, heater_record, step_record}
@@ -113,11 +112,3 @@ read_values_lem (Ok (Tank t)) = refl
 read_values_lem (Ok (HeaterCase h)) = refl
 read_values_lem (Ok (StepCase p)) = refl
 read_values_lem (Err e) = rw refusal_with-number
-
--- and its number is that of its values
-pub values_number : (x : Result Record Refusal) → (values_of x).number ≡ number_in x
-unfolding values_of
-values_number (Ok (Tank t)) = refl
-values_number (Ok (HeaterCase h)) = refl
-values_number (Ok (StepCase p)) = refl
-values_number (Err e) = refl

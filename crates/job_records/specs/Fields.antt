@@ -6,15 +6,13 @@ use Rattle.draw_events.specs.Lent.{max_events}
 use Rattle.set_points.specs.declared.SetPoints.{SetPoints}
 use Rattle.set_points.specs.declared.SetPoints.TheVariants.{Neither, Lower, Upper, Both}
 use Rattle.working_order.specs.Order.{max_heaters}
-use Rattle.tank_model.specs.declared.Setting.{Setting}
-use Rattle.tank_model.specs.Checks.{no_setting}
 use Rattle.job_records.specs.Bytes.{byte_at, double_at}
 
 abbrev pub no_volumes : List Float
 no_volumes = replicate max_events zero_f
 
-abbrev pub no_settings : List Setting
-no_settings = replicate max_heaters no_setting
+abbrev pub no_settings : List SetPoints
+no_settings = replicate max_heaters Neither
 
 -- the first n places of a list as g gives them, the others as they are
 abbrev pub filled : {A : Type 0} → (ℕ → A) → ℕ → List A → List A
@@ -40,9 +38,9 @@ points_of presence lower upper =
 unfoldable pub points_at : List ℕ → ℕ → SetPoints
 points_at s at = points_of (byte_at s at) (double_at s (at + 1)) (double_at s (at + 9))
 
-abbrev pub setting_at : List ℕ → ℕ → ℕ → Setting
-setting_at s at k = record { points = points_at s (at + 17 * k) }
+abbrev pub setting_at : List ℕ → ℕ → ℕ → SetPoints
+setting_at s at k = points_at s (at + 17 * k)
 
 -- the settings of n heaters from a position on, and no set points
-unfoldable pub settings_at : List ℕ → ℕ → ℕ → List Setting
+unfoldable pub settings_at : List ℕ → ℕ → ℕ → List SetPoints
 settings_at s at n = filled (setting_at s at) n no_settings

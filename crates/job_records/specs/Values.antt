@@ -7,7 +7,6 @@ use Rattle.set_points.specs.declared.SetPoints.{SetPoints}
 use Rattle.set_points.specs.declared.SetPoints.TheVariants.{Neither, Lower, Upper, Both}
 use Rattle.working_order.specs.Order.{max_heaters}
 use Rattle.tank_model.specs.declared.Heater.{Heater}
-use Rattle.tank_model.specs.declared.Setting.{Setting}
 use Rattle.tank_model.specs.declared.Step.{Step}
 use Rattle.tank_model.specs.Fixed.{zero_heater}
 use Rattle.job_records.specs.declared.TankRecord.{TankRecord}
@@ -37,8 +36,8 @@ entry_of (Lower l) = record { presence = 1; lower = l; upper = zero_f }
 entry_of (Upper u) = record { presence = 2; lower = zero_f; upper = u }
 entry_of (Both l u) = record { presence = 3; lower = l; upper = u }
 
-abbrev pub entries_of : List Setting → List Entry
-entries_of settings = map (λ (x : Setting). entry_of x.points) settings
+abbrev pub entries_of : List SetPoints → List Entry
+entries_of settings = map entry_of settings
 
 -- ---- a record
 
@@ -60,7 +59,7 @@ pub record Values : Type 0 where
   pub heater : Heater
   pub step : StepNumbers
   pub volumes : List Float
-  pub settings : List Setting
+  pub settings : List SetPoints
   pub entries : List Entry
 
 abbrev pub zero_tank_record : TankRecord

@@ -11,6 +11,7 @@ use tank_model::{Heater, Step, TankDesign};
 use working_order::MAX_HEATERS;
 
 // A tank's record: the numbers of its design, heaters apart.
+// Kept: eight fields of `TankDesign` a second time: a design in their place would have heaters and their count, which no byte of the record says.
 #[derive(Clone, Copy, Default)]
 pub struct TankRecord {
     pub layers: usize,

@@ -4,7 +4,6 @@ ghost use Rattle.job_model.specs.StepLines.{step_lines};
 ghost use Rattle.job_model.specs.Job.{step_figures};
 
 use crate::StepPrinter;
-use job_lines::Totals;
 use job_lines::lines::{accepted_lines, refused_lines};
 use job_model::PrintedStep;
 use storage_tank::{Report, Stepped, StorageTank};
@@ -38,23 +37,7 @@ pub fn step_lines(buf: &mut [u8], index: usize, s: Stepped) -> usize
     if let Err(refusal) = s.outcome {
         return refused_lines(buf, index, refusal, t.layers, &t.temps);
     }
-    let report = s.report;
     let heaters = t.heaters.min(MAX_HEATERS);
-    let order = order_of_work(heaters, &t.fitted);
-    let totals = Totals {
-        energy: report.energy,
-        used: report.used,
-        average: report.average,
-        recoverable: report.recoverable,
-    };
-    accepted_lines(
-        buf,
-        index,
-        totals,
-        t.layers,
-        &t.temps,
-        heaters,
-        order,
-        report.lines,
-    )
+    let order = order_of_work(&t.fitted[..heaters]);
+    accepted_lines(buf, index, &s.report, t.layers, &t.temps, &order[..heaters])
 }

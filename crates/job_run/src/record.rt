@@ -1,4 +1,6 @@
 // One record of a job: the tank made, a heater added, a step run, or the end.
+// Kept: `Countable` is asked of each call: a type that kept it would have to hold of the job after the record too, and no call was asked for that.
+// Kept: `buf`, `j` and `next` beside one another: `next_record` alone would make a struct of them, and each of three functions would take it apart at once.
 ghost use Rattle.std.specs.Prelude.{◌≡◌};
 ghost use Rattle.refusals.specs.Refusals.{number_of};
 ghost use Rattle.job_model.specs.Job.{Countable, Gives, refused_run, made_run, heater_run, step_run, end_run, run_record, ended_job};
@@ -11,8 +13,6 @@ use refusals::Refusal;
 use storage_tank::StorageTank;
 use tank_model::{Heater, Step, TankDesign};
 use tank_refusals::checks::heaters_check;
-
-// Kept: that a job is countable is asked of each call and not kept by its type, since a record may move it past what can be counted in an input that long.
 
 // The job ends, and nothing is printed.
 fn end_job(j: Job) -> Job

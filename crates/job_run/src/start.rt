@@ -4,7 +4,6 @@ ghost use Rattle.working_order.specs.Order.{max_heaters};
 ghost use Rattle.job_model.specs.Job.{with_heater, start_job};
 
 use job_model::Job;
-use job_records::TankRecord;
 use storage_tank::Report;
 use storage_tank::make::zero_tank;
 use tank_model::{Heater, TankDesign};
@@ -31,7 +30,7 @@ pub fn start() -> Job
         ended: false,
         has_tank: false,
         steps: 0,
-        design: TankDesign::from(TankRecord::default()),
+        design: TankDesign::default(),
         tank: zero_tank(),
         report: Report::default(),
     }

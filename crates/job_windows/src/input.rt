@@ -1,4 +1,5 @@
 // Standard input from its beginning to its end, window by window.
+// Kept: `held` beside the buffer, a place in lent bytes: below it stands what a window left, and the next read goes above it.
 ghost use Rattle.std.specs.Prelude.{◌≡◌, ◌+◌, ◌≤◌, length, take};
 ghost use Rattle.job_model.specs.Job.{run_record};
 ghost use Rattle.job_windows.specs.Input.{Open, WindowTaken};
@@ -12,7 +13,7 @@ use job_run::StepPrinter;
 use std::time::Clock;
 use streams::Broken;
 
-// No input has so many windows: each but the last moves on by half a window at least.
+// No input has so many windows: each but the last moves on past the 524,144 bytes by which a window is longer than the longest record.
 const MAX_WINDOWS: usize = 4294967296;
 
 // Standard input after the bytes held, until the buffer is full or the input ends.
@@ -60,6 +61,7 @@ pub fn run_input<P: StepPrinter>(
 ) {
     let mut job = job_run::start::start();
     let mut held = 0;
+    // Kept: a counted loop, as one without a count asks for a measure, and no contract says that an input ends.
     for _window in 0..MAX_WINDOWS {
         let Ok(next) = take_window::<P>(rt, program, &mut space, held, job) else {
             return;

@@ -22,6 +22,7 @@ pub fn run_window<P: StepPrinter>(
     ensures { WindowHanded (run_record P.text bytes.now) (is_ready bytes.now last) job result }
 {
     let mut ran = Ran { job, taken: 0 };
+    // Kept: a `while`, which counts no index: it goes on until the job ends, the next record cannot be read here, or a write fails.
     while goes_on(bytes.len(), last, ran.job.ended, ran.job.at) {
         let told = print_lines::<P>(rt, program, bytes, ran.job);
         match told.sent {

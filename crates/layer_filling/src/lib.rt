@@ -32,6 +32,7 @@ impl LayerFilling {
     }
 
     // The layer j gives what is lacking, or all that it holds.
+    // Kept: `j < max_layers`, here and in `take_from`: the loop knows it of its range; a type of places would be built at each pass, to say it again.
     #[tactic(auto, unfolding(crate::specs::Filling::take_share))]
     pub fn take_share(
         self,
@@ -79,10 +80,9 @@ impl LayerFilling {
         let v = self.lack;
         if v > 0.0 {
             return LayerFilling {
-                lack: v,
                 volume: self.volume + v,
                 weighted: self.weighted + v * draw_off::cold::cold_temp(feed, v),
-                coldest: self.coldest,
+                ..self
             };
         }
         self

@@ -1,23 +1,24 @@
--- Proves that what the code keeps of a round still follows it after a pair that joins (01, Mix), whatever way the group's heat at its new temperature was worked.
+-- Proves that what the code keeps of a round still follows it after a pair that joins (01, Mix), whatever way the group's heat at its new temperature was
+-- worked.
 use mathlib.Core.Path.{◌≡◌, refl, sym, ap, ◌∙◌, subst}
-use mathlib.Core.Bool.{true, not}
+use mathlib.Core.Bool.{true}
 use mathlib.Core.List.{List}
 use Prim.Native.Nat.{ℕ, ◌+◌, ◌-◌, ◌≤◌, ◌<◌}
 use native.Mathlib.Omega.{arith}
 use lib.Dec.{T}
 use lib.ListN.{get_or}
-use lib.Ieee.{Float, nan, binary64, fits, is_nan}
+use lib.Ieee.{Float, nan, binary64}
 use lib.Ieee.Fits.{div-fits}
 use lib.Ieee.Scale.{finite}
 use Rattle.numeric.specs.Double.{◌⊕◌, ◌⊛◌, ◌⊘◌, one_f}
-use Rattle.numeric.specs.Zeros.{SameValue}
 use Rattle.numeric.specs.Sum2.{accumulate, total}
 use Rattle.numeric.specs.declared.sum2.Accumulator.{Accumulator}
 use Rattle.numeric.proofs.Finite.{sum_parts_finite}
 use Rattle.numeric.proofs.Members.{members_finite}
 use Rattle.mixing.specs.Round.{joins, group_temp, fill, pair}
 use Rattle.group_sums.specs.Sums.{heat_sum}
-use Rattle.layer_joining.specs.Running.{SaysJoins, joined_group, AsDefined, Follows}
+use Rattle.layer_joining.specs.Running.{EachHas, SaysJoins, joined_group, AsDefined, Follows}
+use Rattle.std.specs.Prelude.{Option, IfSome}
 use Rattle.layer_joining.specs.declared.RunningGroup.{RunningGroup}
 use Rattle.layer_joining.proofs.Fill.{fill_inside, fill_over}
 use Rattle.layer_joining.proofs.Written.{written, written_lower, written_upper, written_finite, lower_finite, upper_finite, walk_more, passed_more}
@@ -36,10 +37,6 @@ pub met_parts : (met s a own : Float) → s ≡ a ⊕ own → T (finite (met ⊕
 met_parts met s a own e h =
     let parts = sum_parts_finite met s h in
     (parts.0, (sum_parts_finite a own (rw (← e) parts.1)).1)
-
--- where `each` is a number, it is the volume of each layer from bottom to below end
-abbrev pub EachIs : List Float → ℕ → ℕ → Float → Type 0
-EachIs vol bottom end each = T (fits binary64 each) × (T (not (is_nan each)) → (k : ℕ) → bottom ≤ k → k < end → SameValue (get_or vol k nan) each)
 
 -- the layer i + 1, of volume v and temperature `next`, joins the group; `volume` and `temp` are the group's with it
 module _ (n : ℕ) (vol first : List Float) (i : ℕ) (temps : List Float) (r : RunningGroup) (low : r.bottom ≤ i) (b : i + 1 < n)
@@ -64,7 +61,7 @@ module _ (n : ℕ) (vol first : List Float) (i : ℕ) (temps : List Float) (r : 
       rw (written_lower n vol first i temps r low (omega arith) d, written_upper n vol first i temps r low (omega arith) d, ← above, j, new_temp temp_is d)
       (ap (λ (z : List Float). record { temps = z; bottom = r.bottom }) (fill_over r.bottom (i + 1) (i + 2) r.temp temp temps (omega arith) (omega arith)))
 
-  joined_as_defined : TempIs → (heat : Accumulator) (each met : Float) (d : AsDefined n vol first i temps r) → joins r.temp next ≡ true → T (finite heat.s) → heat ≡ heat_sum vol temp r.bottom (i + 2) → EachIs vol r.bottom (i + 2) each → AsDefined n vol first (i + 1) temps (joined_group r temp heat volume each met)
+  joined_as_defined : TempIs → (heat : Accumulator) (each : Option Float) (met : Float) (d : AsDefined n vol first i temps r) → joins r.temp next ≡ true → T (finite heat.s) → heat ≡ heat_sum vol temp r.bottom (i + 2) → IfSome each (λ x. EachHas vol r.bottom (i + 2) x) → AsDefined n vol first (i + 1) temps (joined_group r temp heat volume each met)
   joined_as_defined temp_is heat each met d j f h e = record {
     walk = walk_more n vol first i temps r low (omega arith) d ∙ rw two (joined_walk temp_is d j);
     temp_fits = rw temp_is (div-fits binary64 (total (accumulate r.heat (v ⊛ next))) (total volume));
@@ -72,15 +69,14 @@ module _ (n : ℕ) (vol first : List Float) (i : ℕ) (temps : List Float) (r : 
     group_finite = λ k l u. members_finite (λ (k : ℕ). get_or vol k nan ⊛ temp) (i + 2 - r.bottom) r.bottom (subst (λ (a : Accumulator). T (finite a.s)) h f) k (l, omega arith);
     heat = rw two h;
     volume = rw (two, volume_is, d.volume, at) (sym (volume_more vol r.bottom i (omega arith)));
-    each_fits = e.0;
-    each = λ m k l u. e.1 m k l (omega arith);
+    each = rw two e;
     one_layer = λ q. absurd (omega arith);
     below = d.below;
     order = d.order;
   }
 
   -- the law: a finite `met` answers for what was met, for the layer's own, and for the temperature
-  pub follows_join : (heat : Accumulator) (each met : Float) → (T (finite met) → T (finite r.met) × T (finite (v ⊛ next))) → (T (finite met) → TempIs) → SaysJoins r.temp next true → (AsDefined n vol first i temps r → T (finite met) → T (finite heat.s) → heat ≡ heat_sum vol temp r.bottom (i + 2)) → (AsDefined n vol first i temps r → EachIs vol r.bottom (i + 2) each) → Follows n vol first i temps r → Follows n vol first (i + 1) temps (joined_group r temp heat volume each met)
+  pub follows_join : (heat : Accumulator) (each : Option Float) (met : Float) → (T (finite met) → T (finite r.met) × T (finite (v ⊛ next))) → (T (finite met) → TempIs) → SaysJoins r.temp next true → (AsDefined n vol first i temps r → T (finite met) → T (finite heat.s) → heat ≡ heat_sum vol temp r.bottom (i + 2)) → (AsDefined n vol first i temps r → IfSome each (λ x. EachHas vol r.bottom (i + 2) x)) → Follows n vol first i temps r → Follows n vol first (i + 1) temps (joined_group r temp heat volume each met)
   follows_join heat each met answers temp_is j h e f = record {
     ahead = λ k l. f.ahead k (omega arith);
     passed = λ m.

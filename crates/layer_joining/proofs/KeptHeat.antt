@@ -1,15 +1,15 @@
--- Proves when the heat of a running group, kept from the pair before, serves at its new temperature (01, Mix): where each layer's volume × temperature is what it
--- was. One product tells, where the volumes are equal; otherwise the temperature must be the same.
+-- Proves when the heat of a running group, kept from the pair before, serves at its new temperature (01, Mix): where each layer's volume × temperature is what
+-- it was. One product tells, where the volumes are equal; otherwise the temperature must be the same.
 use mathlib.Core.Path.{◌≡◌, sym, ◌∙◌, subst}
 use mathlib.Core.Logic.{⊎_elim, inl, inr}
-use mathlib.Core.Bool.{true, not, true≢false}
+use mathlib.Core.Bool.{true}
 use mathlib.Core.List.{List}
 use Prim.Native.Nat.{ℕ, ◌+◌, ◌-◌, ◌≤◌, ◌<◌}
 use native.Mathlib.Nat.{eq-or-lt_of_le}
 use native.Mathlib.Omega.{arith}
 use lib.Dec.{T}
 use lib.ListN.{get_or}
-use lib.Ieee.{Float, nan, inf, fin, binary64, fits, eq, is_nan}
+use lib.Ieee.{Float, nan, binary64, fits, eq}
 use lib.Ieee.Fits.{mul-fits}
 use lib.Ieee.Scale.{finite}
 use denote.Floats.{is_true}
@@ -21,20 +21,9 @@ use Rattle.numeric.proofs.Finite.{product_parts_finite}
 use Rattle.numeric.proofs.SameValue.{equal_same, same_back, same_through, same_finite, same_left, same_right, same_factor}
 use Rattle.numeric.proofs.Members.{Stable, stable_start, stable_terms, same_term, same_members, term_finite, members_finite}
 use Rattle.group_sums.specs.Sums.{heat_sum, EvenSum, OneMore}
-use Rattle.layer_joining.specs.Running.{AsDefined}
+use Rattle.layer_joining.specs.Running.{StaysEach, EachHas, AsDefined}
 use Rattle.layer_joining.specs.declared.RunningGroup.{RunningGroup}
 use Rattle.layer_joining.proofs.Members.{heat_more}
-
--- what equals something is a number
-equal_number : (x y : Float) → eq x y ≡ true → T (not (is_nan y))
-unfolding eq is_nan
-equal_number nan y h = absurd (true≢false (sym h))
-equal_number (inf s) nan h = absurd (true≢false (sym h))
-equal_number (inf s) (inf t) h = tt
-equal_number (inf s) (fin t n g) h = tt
-equal_number (fin s m e) nan h = absurd (true≢false (sym h))
-equal_number (fin s m e) (inf t) h = tt
-equal_number (fin s m e) (fin t n g) h = tt
 
 module _ (n : ℕ) (vol first : List Float) (i : ℕ) (temps : List Float) (r : RunningGroup) (low : r.bottom ≤ i) (b : i + 1 < n) (d : AsDefined n vol first i temps r) (v : Float) (at : v ≡ get_or vol (i + 1) nan) where
   -- a layer of the group, with the one that joins, is one that was in it or that one
@@ -44,11 +33,19 @@ module _ (n : ℕ) (vol first : List Float) (i : ℕ) (temps : List Float) (r : 
       ⊎_elim (λ e. rw e l) (λ w. h k a w) (eq-or-lt_of_le m)
 
   -- the volume of the layer that joins is that of each in the group
-  v_each : T (fits binary64 v) → eq v r.each ≡ true → SameValue v r.each
-  v_each vf ve = equal_same v r.each vf d.each_fits ve
+  module _ (vf : T (fits binary64 v)) (each : Float) (e : StaysEach r.each v each) where
+    had : EachHas vol r.bottom (i + 1) each
+    had = rw e.is_each at d.each
 
-  pub each_more : T (fits binary64 v) → eq v r.each ≡ true → (k : ℕ) → r.bottom ≤ k → k < i + 2 → SameValue (get_or vol k nan) r.each
-  each_more vf ve = grown (λ (k : ℕ). SameValue (get_or vol k nan) r.each) (d.each (equal_number v r.each ve)) (rw (← at) (v_each vf ve))
+    v_each : SameValue v each
+    v_each = equal_same v each vf had.volume_fits e.even
+
+    pub each_more : EachHas vol r.bottom (i + 2) each
+    each_more = record { volume_fits = had.volume_fits; has = grown (λ (k : ℕ). SameValue (get_or vol k nan) each) had.has (rw (← at) v_each) }
+
+    -- and so each has its
+    as_v : (k : ℕ) → r.bottom ≤ k → k < i + 2 → SameValue (get_or vol k nan) v
+    as_v k l u = same_through (get_or vol k nan) each v (each_more.has k l u) (same_back v each v_each)
 
   module _ (x : Float) (q : Accumulator) (own : Float) (known : OneMore r.heat (v ⊛ r.temp) own (accumulate r.heat own) q) (f : T (finite q.s)) where
     old_stable : Stable r.heat
@@ -67,12 +64,12 @@ module _ (n : ℕ) (vol first : List Float) (i : ℕ) (temps : List Float) (r : 
         ∙ same_members (λ (k : ℕ). get_or vol k nan ⊛ r.temp) (λ (k : ℕ). get_or vol k nan ⊛ x) (i + 2 - r.bottom) r.bottom (λ j w. (same j w.0 (omega arith), mul-fits binary64 (get_or vol j nan) x))
 
     -- the volumes are equal, and so is the product
-    pub even_heat : T (fits binary64 v) → eq v r.each ≡ true → eq (v ⊛ x) (v ⊛ r.temp) ≡ true → q ≡ heat_sum vol x r.bottom (i + 2)
-    even_heat vf ve e =
+    pub even_heat : T (fits binary64 v) → (each : Float) → StaysEach r.each v each → eq (v ⊛ x) (v ⊛ r.temp) ≡ true → q ≡ heat_sum vol x r.bottom (i + 2)
+    even_heat vf each ve e =
         let same = same_back (v ⊛ x) (v ⊛ r.temp) (equal_same (v ⊛ x) (v ⊛ r.temp) (mul-fits binary64 v x) (mul-fits binary64 v r.temp) e) in
         let xf = (product_parts_finite v x (same_finite (v ⊛ r.temp) (v ⊛ x) same product_finite)).1 in
         let tf = (product_parts_finite v r.temp product_finite).1 in
-        same_heat (λ k l u. same_left (get_or vol k nan) v r.temp x tf xf (same_through (get_or vol k nan) r.each v (each_more vf ve k l u) (same_back v r.each (v_each vf ve))) same)
+        same_heat (λ k l u. same_left (get_or vol k nan) v r.temp x tf xf (as_v vf each ve k l u) same)
 
     -- the temperature is the same
     pub level_heat : T (fits binary64 x) → eq x r.temp ≡ true → q ≡ heat_sum vol x r.bottom (i + 2)
@@ -84,10 +81,10 @@ module _ (n : ℕ) (vol first : List Float) (i : ℕ) (temps : List Float) (r : 
         (rw (← at) (same_right v r.temp x (product_parts_finite v r.temp product_finite).0 same)))
 
   -- the volumes are equal, and the heat is a sum of one product
-  pub equal_heat : T (fits binary64 v) → eq v r.each ≡ true → (x : Float) (q : Accumulator) → EvenSum vol x (v ⊛ x) r.bottom (i + 2) q → T (finite q.s) → q ≡ heat_sum vol x r.bottom (i + 2)
-  equal_heat vf ve x q (inl e) f = e
-  equal_heat vf ve x q (inr e) f =
+  pub equal_heat : T (fits binary64 v) → (each : Float) → StaysEach r.each v each → (x : Float) (q : Accumulator) → EvenSum vol x (v ⊛ x) r.bottom (i + 2) q → T (finite q.s) → q ≡ heat_sum vol x r.bottom (i + 2)
+  equal_heat vf each ve x q (inl e) f = e
+  equal_heat vf each ve x q (inr e) f =
       let is = e (is_true (finite q.s) f) in
       let xf = (product_parts_finite v x (members_finite (λ (k : ℕ). v ⊛ x) (i + 2 - r.bottom) r.bottom (subst (λ (a : Accumulator). T (finite a.s)) is f) r.bottom (omega arith, omega arith))).1 in
-      let same : (k : ℕ) → r.bottom ≤ k → k < i + 2 → SameValue v (get_or vol k nan) = λ k l u. same_through v r.each (get_or vol k nan) (v_each vf ve) (same_back (get_or vol k nan) r.each (each_more vf ve k l u)) in
+      let same : (k : ℕ) → r.bottom ≤ k → k < i + 2 → SameValue v (get_or vol k nan) = λ k l u. same_back (get_or vol k nan) v (as_v vf each ve k l u) in
       is ∙ same_members (λ (k : ℕ). v ⊛ x) (λ (k : ℕ). get_or vol k nan ⊛ x) (i + 2 - r.bottom) r.bottom (λ j w. (same_factor v (get_or vol j nan) x xf (same j w.0 (omega arith)), mul-fits binary64 (get_or vol j nan) x))

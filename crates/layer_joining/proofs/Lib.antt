@@ -4,4 +4,4 @@ pub mod Members
 pub mod Written
 mod Joining
 mod KeptHeat
-mod Even
+mod Joined

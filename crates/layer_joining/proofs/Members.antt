@@ -1,5 +1,5 @@
--- Proves that a group's temperature is worked from its own layers alone (01, Mix: 'each sum over all layers with terms outside the group times 0'), where volume ×
--- temperature is finite in every layer; and from what is kept of the group when a layer joins it.
+-- Proves that a group's temperature is worked from its own layers alone (01, Mix: 'each sum over all layers with terms outside the group times 0'), where
+-- volume × temperature is finite in every layer; and from what is kept of the group when a layer joins it.
 use mathlib.Core.Path.{◌≡◌, refl, ap, ◌∙◌, subst}
 use mathlib.Core.Logic.{◌⊎◌, ⊎_elim, inl}
 use mathlib.Core.Bool.{Bool, true, false, not, cond, ◌&&◌}

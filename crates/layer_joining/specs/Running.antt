@@ -1,10 +1,11 @@
 -- States what the code keeps while a round runs (01, Mix), what that says of the round as Round defines it, and a layer that joins. No definition of a call
 -- cites this: it stands in the contracts of the functions that work a round, and a round that they work is proved to be `one_round`.
-use Rattle.std.specs.Prelude.{ℕ, zero, suc, ◌+◌, ◌-◌, ◌≤◌, ◌<◌, Bool, true, not, ◌⊎◌, ◌≡◌, List, T, get_or, Float, Option, Some, None}
+use Rattle.std.specs.Prelude.{ℕ, zero, suc, ◌+◌, ◌-◌, ◌≤◌, ◌<◌, ◌≡◌, Bool, true, T, List, get_or, Float}
+use Rattle.std.specs.Prelude.{Option, Some, None, IfSome}
 use Rattle.std.specs.Float.{nan, binary64}
-use Rattle.std.specs.Float.Ieee.{fits, is_nan, le, eq}
+use Rattle.std.specs.Float.Ieee.{fits, le, eq}
 use Rattle.std.specs.Float.Ieee.Scale.{finite}
-use Rattle.numeric.specs.Double.{◌⊕◌, ◌⊛◌, one_f, ◌⊘◌, zero_f}
+use Rattle.numeric.specs.Double.{◌⊕◌, ◌⊛◌, one_f}
 use Rattle.numeric.specs.Zeros.{SameValue}
 use Rattle.numeric.specs.Iterate.{iterate}
 use Rattle.numeric.specs.Holds.{holds}
@@ -15,15 +16,21 @@ use Rattle.mixing.specs.Round.{joins, fill, pair}
 use Rattle.mixing.specs.Rearrange.{rises}
 use Rattle.group_sums.specs.Sums.{volume_sum, heat_sum}
 use Rattle.layer_joining.specs.declared.RunningGroup.{RunningGroup}
+use Rattle.layer_joining.specs.declared.NextLayer.{NextLayer}
 
--- r is the volume of each layer, and v equals it
-pub record StaysEach (each v r : Float) : Type 0 where
-  pub is_each : r ≡ each
-  pub even : eq v each ≡ true
+-- x is the volume of each layer of a group, and v equals it
+pub record StaysEach (each : Option Float) (v x : Float) : Type 0 where
+  pub is_each : each ≡ Some x
+  pub even : eq v x ≡ true
 
--- the volume of each layer, with one of volume v more: not-a-number where that differs
-abbrev pub EachWith : Float → Float → Float → Type 0
-EachWith each v r = StaysEach each v r ⊎ (r ≡ zero_f ⊘ zero_f)
+-- r is the volume of each layer of the group, with one of volume v more: there is none where that differs
+abbrev pub EachWith : Option Float → Float → Option Float → Type 0
+EachWith each v r = IfSome r (λ x. StaysEach each v x)
+
+-- each layer from bottom to below end has the volume x
+pub record EachHas (vol : List Float) (bottom end : ℕ) (x : Float) : Type 0 where
+  pub volume_fits : T (fits binary64 x)
+  pub has : (k : ℕ) → bottom ≤ k → k < end → SameValue (get_or vol k nan) x
 
 -- volume × temperature is finite in each of n layers
 abbrev pub HeatFinite : ℕ → List Float → List Float → Type 0
@@ -44,7 +51,7 @@ not_above None x = true
 not_above (Some y) x = le y x
 
 -- the group's state after a pair that joins: `heat` is the sum at the new temperature, and its s answers for the products in it
-abbrev pub joined_group : RunningGroup → Float → Accumulator → Accumulator → Float → Float → RunningGroup
+abbrev pub joined_group : RunningGroup → Float → Accumulator → Accumulator → Option Float → Float → RunningGroup
 joined_group r temp heat volume each met = record {
   bottom = r.bottom;
   temp = temp;
@@ -70,9 +77,8 @@ module _ (n : ℕ) (vol first : List Float) (i : ℕ) (temps : List Float) (r : 
     -- the two sums over the group's layers
     pub heat : r.heat ≡ heat_sum vol r.temp r.bottom (i + 1)
     pub volume : r.volume ≡ volume_sum vol r.bottom (i + 1)
-    -- where the volume of each is a number, each of them has it
-    pub each_fits : T (fits binary64 r.each)
-    pub each : T (not (is_nan r.each)) → (k : ℕ) → r.bottom ≤ k → k < i + 1 → SameValue (get_or vol k nan) r.each
+    -- where there is a volume of each, each of them has it
+    pub each : IfSome r.each (λ x. EachHas vol r.bottom (i + 1) x)
     -- a group of one layer has that layer's temperature
     pub one_layer : r.bottom ≡ i → r.temp ≡ get_or temps i nan
     -- the layers below the group: the highest of them, and whether they are in order
@@ -85,30 +91,34 @@ module _ (n : ℕ) (vol first : List Float) (i : ℕ) (temps : List Float) (r : 
     pub passed : T (finite r.met) → HeatFinite (i + 1) vol first
     pub as_defined : T (finite r.met) → HeatFinite n vol first → AsDefined
 
--- ---- a layer joins the group r: the layer i + 1, of volume v and temperature `next`
+-- ---- the layer `next` joins the group r
 
 -- it stands above the group
-pub record Enters (vol : List Float) (i : ℕ) (v : Float) (r : RunningGroup) : Type 0 where
-  pub group_below : r.bottom ≤ i
-  pub has_place : i + 1 < max_layers
-  pub own_volume : v ≡ get_or vol (i + 1) nan
+pub record Enters (vol : List Float) (next : NextLayer) (r : RunningGroup) : Type 0 where
+  pub group_below : r.bottom ≤ next.below
+  pub has_place : next.below + 1 < max_layers
+  pub own_volume : next.volume ≡ get_or vol (next.below + 1) nan
 
 -- and `volume` is the group's with it
-pub record EntersAny (vol : List Float) (i : ℕ) (v : Float) (r : RunningGroup) (volume : Accumulator) : Type 0 where
-  pub enters : Enters vol i v r
-  pub volume_is : volume ≡ accumulate r.volume (v ⊛ one_f)
+pub record EntersAny (vol : List Float) (next : NextLayer) (r : RunningGroup) (volume : Accumulator) : Type 0 where
+  pub enters : Enters vol next r
+  pub volume_is : volume ≡ accumulate r.volume (next.volume ⊛ one_f)
 
--- and each layer of the group has the volume v, and `heat`, of the total `heat_total`, is the group's with the layer's own, where that is finite
-pub record EntersEven (vol : List Float) (i : ℕ) (v next : Float) (r : RunningGroup) (heat : Accumulator) (heat_total : Float) (volume : Accumulator)
-    : Type 0 where
-  pub any : EntersAny vol i v r volume
-  pub each_is : eq v r.each ≡ true
-  pub heat_s : heat.s ≡ r.heat.s ⊕ (v ⊛ next)
-  pub heat_is : finite heat.s ≡ true → heat ≡ accumulate r.heat (v ⊛ next)
-  pub total_is : finite heat.s ≡ true → total heat ≡ heat_total
+-- and `sum`, of the total s, is the group's heat with the layer's own, where that is finite
+pub record Warms (vol : List Float) (next : NextLayer) (r : RunningGroup) (sum : Accumulator) (s : Float) (volume : Accumulator) : Type 0 where
+  pub any : EntersAny vol next r volume
+  pub sum_s : sum.s ≡ r.heat.s ⊕ (next.volume ⊛ next.temp)
+  pub sum_is : finite sum.s ≡ true → sum ≡ accumulate r.heat (next.volume ⊛ next.temp)
+  pub total_is : finite sum.s ≡ true → total sum ≡ s
+
+-- and each layer of the group has the layer's volume
+pub record EntersEven (vol : List Float) (next : NextLayer) (r : RunningGroup) (sum : Accumulator) (s : Float) (volume : Accumulator) : Type 0 where
+  pub warms : Warms vol next r sum s volume
+  pub each : Float
+  pub each_is : StaysEach r.each next.volume each
 
 -- q is the group with the layer: it starts where r does, and follows the round as r did, whatever the layers are, if the pair joins
-pub record StillFollows (vol : List Float) (i : ℕ) (next : Float) (r q : RunningGroup) : Type 0 where
+pub record StillFollows (vol : List Float) (next : NextLayer) (r q : RunningGroup) : Type 0 where
   pub bottom_is : q.bottom ≡ r.bottom
-  pub follows : (n : ℕ) (first temps : List Float) → i + 1 < n → next ≡ get_or temps (i + 1) nan → SaysJoins r.temp next true
-      → Follows n vol first i temps r → Follows n vol first (i + 1) temps q
+  pub follows : (n : ℕ) (first temps : List Float) → next.below + 1 < n → next.temp ≡ get_or temps (next.below + 1) nan
+      → SaysJoins r.temp next.temp true → Follows n vol first next.below temps r → Follows n vol first (next.below + 1) temps q

@@ -1,12 +1,12 @@
 -- States what one layer loses, and the temperature at which it ends, by what stands at it alone (01, Losses and limit).
-use Rattle.std.specs.Prelude.{Bool, cond, not, ◌&&◌, Float}
+use Rattle.std.specs.Prelude.{Bool, cond, not, ◌&&◌, Float, Option, None}
 use Rattle.std.specs.Float.Ieee.{lt}
 use Rattle.numeric.specs.Double.{◌⊖◌, ◌⊛◌, ◌⊘◌, zero_f, whole}
 use Rattle.numeric.specs.Compare.{min_of2, max_of2}
 use Rattle.numeric.specs.Close.{wide_close}
 use Rattle.cylinder.specs.declared.Cylinder.{Cylinder}
 use Rattle.set_points.specs.declared.SetPoints.{SetPoints}
-use Rattle.set_points.specs.SetPoints.{has_upper, upper_of}
+use Rattle.set_points.specs.SetPoints.{has_upper, upper_of, given_upper}
 use Rattle.layer_losses.specs.declared.LayerAfter.{LayerAfter}
 
 -- t is above u and not wide-close to it
@@ -23,6 +23,10 @@ standby_coefficient c = whole 1000 ⊛ c.standby ⊘ (whole 24 ⊛ whole 45)
 
 -- below, v is a layer's volume, t its temperature after the mixing, `warm` whether it is warmed, `earlier` what earlier heaters charged it,
 -- `lost` its loss, `capacity` its density × specific heat × layer volume
+
+-- the upper set point, where there is one and the layer is warmed: it limits no other
+abbrev pub limit_of : SetPoints → Bool → Option Float
+limit_of p warm = cond warm (given_upper p) None
 
 -- a warmed layer is counted at no more than the upper set point
 unfoldable pub counted_temp : SetPoints → Bool → Float → Float

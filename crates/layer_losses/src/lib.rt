@@ -1,10 +1,11 @@
 // What one layer loses, and the temperature at which it ends, told by what stands at that layer alone.
 #![tactic(auto)]
 
-ghost use Rattle.std.specs.Prelude.{◌≡◌};
+ghost use Rattle.std.specs.Prelude.{◌≡◌, Bool};
 ghost use Rattle.numeric.specs.Double.{◌⊛◌};
 ghost use Rattle.layer_losses.specs.Loss.{clearly_above, over_upper, standby_coefficient, counted_temp, standing_loss, loss};
-ghost use Rattle.layer_losses.specs.Loss.{limited_temp, surplus_term, layer_after};
+ghost use Rattle.layer_losses.specs.Loss.{limit_of, limited_temp, surplus_term, layer_after};
+ghost use Rattle.set_points.specs.declared.SetPoints.{SetPoints};
 
 use cylinder::Cylinder;
 use set_points::SetPoints;
@@ -50,20 +51,25 @@ pub struct LayerAfter {
 }
 
 impl Layer {
-    fn is_warmed(self) -> bool
-        ensures { result ≡ clearly_above self.mixed self.before }
+    // The upper set point, where the heat warmed the layer: it limits no other.
+    fn limit(self, p: SetPoints) -> Option<f64>
+        ensures { result ≡ limit_of p (clearly_above self.mixed self.before) }
     {
-        is_clearly_above(self.mixed, self.before)
+        if is_clearly_above(self.mixed, self.before) {
+            p.upper()
+        } else {
+            None
+        }
     }
 
     // A warmed layer is counted at no more than the upper set point.
-    #[tactic(auto, using(set_points::proofs::Given::upper_cases), unfolding(crate::specs::Loss::counted_temp))]
-    fn counted_temp(self, p: SetPoints, warmed: bool) -> f64
-        ensures { result ≡ counted_temp p warmed self.mixed }
+    #[tactic(auto, using(crate::proofs::Limit::limit_cases), unfolding(crate::specs::Loss::counted_temp))]
+    fn counted_temp(self, limit: Option<f64>) -> f64
+        ensures { (p : SetPoints) (warm : Bool) → limit ≡ limit_of p warm → result ≡ counted_temp p warm self.mixed }
     {
-        match p.upper() {
-            Some(u) if warmed => numeric::compare::min_of_2(self.mixed, u),
-            _ => self.mixed,
+        match limit {
+            Some(u) => numeric::compare::min_of_2(self.mixed, u),
+            None => self.mixed,
         }
     }
 
@@ -80,49 +86,50 @@ impl Layer {
 
     // Its loss, less what earlier heaters charged it.
     #[tactic(auto, unfolding(crate::specs::Loss::loss))]
-    fn loss(self, c: Cylinder, p: SetPoints, warmed: bool) -> f64
-        ensures { result ≡ loss c self.volume p warmed self.mixed self.charged }
+    fn loss(self, c: Cylinder, limit: Option<f64>) -> f64
+        ensures { (p : SetPoints) (warm : Bool) → limit ≡ limit_of p warm → result ≡ loss c self.volume p warm self.mixed self.charged }
     {
-        let standing = self.standing_loss(c, self.counted_temp(p, warmed));
+        let standing = self.standing_loss(c, self.counted_temp(limit));
         numeric::compare::max_of_2(0.0, standing - self.charged)
     }
 
     // A warmed layer over the upper set point ends exactly there; any other drops by its loss. `capacity` is the heat of one degree.
-    #[tactic(auto, using(set_points::proofs::Given::upper_cases), unfolding(crate::specs::Loss::over_upper, crate::specs::Loss::limited_temp))]
-    fn limited_temp(self, p: SetPoints, warmed: bool, lost: f64, capacity: f64) -> f64
-        ensures { result ≡ limited_temp p warmed self.mixed lost capacity }
+    #[tactic(auto, using(crate::proofs::Limit::limit_cases), unfolding(crate::specs::Loss::over_upper, crate::specs::Loss::limited_temp))]
+    fn limited_temp(self, limit: Option<f64>, lost: f64, capacity: f64) -> f64
+        ensures { (p : SetPoints) (warm : Bool) → limit ≡ limit_of p warm → result ≡ limited_temp p warm self.mixed lost capacity }
     {
-        match p.upper() {
-            Some(u) if warmed && is_clearly_above(self.mixed, u) => u,
+        match limit {
+            Some(u) if is_clearly_above(self.mixed, u) => u,
             _ => self.mixed - lost / capacity,
         }
     }
 
-    fn after_loss(self, c: Cylinder, p: SetPoints, warmed: bool) -> LayerAfter
-        ensures { result ≡ layer_after c self.volume p warmed self.mixed self.charged }
+    #[inline(always)]
+    fn after_loss(self, c: Cylinder, limit: Option<f64>) -> LayerAfter
+        ensures { (p : SetPoints) (warm : Bool) → limit ≡ limit_of p warm → result ≡ layer_after c self.volume p warm self.mixed self.charged }
     {
-        let lost = self.loss(c, p, warmed);
-        let temp = self.limited_temp(p, warmed, lost, c.rho * c.cp * self.volume);
+        let lost = self.loss(c, limit);
+        let temp = self.limited_temp(limit, lost, c.rho * c.cp * self.volume);
         LayerAfter { lost, temp }
     }
 
-    // Whether it is warmed is asked once, and most layers are not: a call for each answer, which is compiled without further questions.
+    // Most layers have no limit: a call for each answer, inlined, so that they are worked without further questions.
     pub fn after(self, c: Cylinder, p: SetPoints) -> LayerAfter
         ensures { result ≡ layer_after c self.volume p (clearly_above self.mixed self.before) self.mixed self.charged }
     {
-        if self.is_warmed() {
-            self.after_loss(c, p, true)
-        } else {
-            self.after_loss(c, p, false)
+        match self.limit(p) {
+            Some(u) => self.after_loss(c, Some(u)),
+            None => self.after_loss(c, None),
         }
     }
 
-    // Its heat less its loss less its heat at the set point; not a number where there is no upper set point, as this is asked only where it is passed.
+    // Its heat less its loss less its heat at the set point; not a number where there is no upper set point.
+    // Kept: not-a-number, as the definition has it (`upper_of`): the only caller asks where the set point is passed, and would ask again of an `Option`.
     pub fn surplus(self, c: Cylinder, p: SetPoints) -> f64
         ensures { result ≡ surplus_term p self.mixed (loss c self.volume p (clearly_above self.mixed self.before) self.mixed self.charged)
             (c.rho ⊛ c.cp ⊛ self.volume) }
     {
-        let lost = self.loss(c, p, self.is_warmed());
+        let lost = self.loss(c, self.limit(p));
         let capacity = c.rho * c.cp * self.volume;
         capacity * self.mixed - lost - capacity * p.upper().unwrap_or(f64::NAN)
     }

@@ -1,6 +1,7 @@
 -- Proves that C's layout loses nothing of a step's set points, and that heaters that stand in it are worked in the tank's order (01, The four calls; Tank).
 use Rattle.std.proofs.Common.{◌≡◌, refl, ap, ◌∙◌, ℕ, ◌+◌, arith, List, get_or, length}
 use Rattle.std.specs.Prelude.{◌<◌, ◌≤◌, Bool, Float}
+use Rattle.std.specs.Bool.{then_some}
 use Rattle.std.specs.Float.{nan}
 use Rattle.cylinder.specs.declared.Cylinder.{Cylinder}
 use Rattle.numeric.specs.Tabulate.{tabulate, tabulate_same, at_tabulate}
@@ -10,9 +11,7 @@ use Rattle.set_points.specs.SetPoints.{has_lower, has_upper, lower_of, upper_of}
 use Rattle.working_order.specs.Order.{max_heaters, rising_order}
 use Rattle.working_order.proofs.Same.{rising_same}
 use Rattle.tank_model.specs.declared.Heater.{Heater}
-use Rattle.tank_model.specs.declared.Setting.{Setting}
 use Rattle.tank_model.specs.Fixed.{Placed, no_heater, placed, placed_heaters, heater_of, fixed_by}
-use Rattle.tank_model.specs.Checks.{no_setting}
 use Rattle.tank_model.specs.Order.{working_order}
 use Rattle.tank_model.proofs.Order.{many_placed, placed_at}
 use Rattle.lent_tank.specs.Layout.{heater_in, fitted_in, points_in, settings_in, present_of, set_points_of}
@@ -20,25 +19,25 @@ use Rattle.lent_tank.proofs.Places.{places}
 
 -- ---- set points that are laid out and read again are what they were
 
-points_back : (p : SetPoints) → points_in (has_lower p) (has_upper p) (lower_of p) (upper_of p) ≡ p
+points_back : (p : SetPoints) → points_in (then_some (has_lower p) (lower_of p)) (then_some (has_upper p) (upper_of p)) ≡ p
 unfolding points_in has_lower has_upper lower_of upper_of
 points_back Neither = refl
 points_back (Lower l) = refl
 points_back (Upper u) = refl
 points_back (Both l u) = refl
 
-abbrev setting_back : List Setting → ℕ → Setting
-setting_back xs h = let p = (get_or xs h no_setting).points in record { points = points_in (has_lower p) (has_upper p) (lower_of p) (upper_of p) }
+abbrev setting_back : List SetPoints → ℕ → SetPoints
+setting_back xs h = let p = get_or xs h Neither in points_in (then_some (has_lower p) (lower_of p)) (then_some (has_upper p) (upper_of p))
 
-settings_read : (xs : List Setting) → settings_in (present_of xs) (set_points_of xs) ≡ tabulate (setting_back xs) max_heaters 0
+settings_read : (xs : List SetPoints) → settings_in (present_of xs) (set_points_of xs) ≡ tabulate (setting_back xs) max_heaters 0
 unfolding settings_in present_of set_points_of tabulate
 settings_read xs = refl
 
-pub settings_back : (xs : List Setting) → length xs ≡ max_heaters → settings_in (present_of xs) (set_points_of xs) ≡ xs
+pub settings_back : (xs : List SetPoints) → length xs ≡ max_heaters → settings_in (present_of xs) (set_points_of xs) ≡ xs
 settings_back xs e =
     settings_read xs
-    ∙ tabulate_same (setting_back xs) (λ (h : ℕ). get_or xs h no_setting) max_heaters 0 (λ j l u. ap (λ (p : SetPoints). record { points = p }) (points_back (get_or xs j no_setting).points))
-    ∙ places no_setting max_heaters xs e
+    ∙ tabulate_same (setting_back xs) (λ (h : ℕ). get_or xs h Neither) max_heaters 0 (λ j l u. points_back (get_or xs j Neither))
+    ∙ places Neither max_heaters xs e
 
 -- ---- the order of work, by the positions that stand after the rated powers
 

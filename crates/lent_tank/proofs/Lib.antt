@@ -1,4 +1,4 @@
--- What the bytes say, and what a loop over the heaters' places fills in.
+-- What the bytes say, and what fills the heaters' places.
 pub mod Bytes
 pub mod Places
 pub mod Back

@@ -1,5 +1,7 @@
--- Proves what a loop that writes the places of the heaters in turn leaves: one row of them, or three; and what stands in a list's places.
-use Rattle.std.proofs.Common.{◌≡◌, refl, ap, subst, ◌∙◌, ℕ, suc, ◌+◌, arith, List, [], ◌∷◌, ◌++◌, get_or, length, set, replicate}
+-- Proves what a closure makes that is called at each place, what a loop leaves that writes three places for each heater, and what stands in a list's places.
+use Rattle.std.proofs.Common.{◌≡◌, refl, ap, subst, ◌∙◌, ℕ, zero, suc, ◌+◌, arith, List, [], ◌∷◌, ◌++◌, get_or, length, set, drop, replicate, drop-cons, add-one}
+use Rattle.std.specs.Fn.{Mut, Called}
+use Rattle.std.specs.Array.{IsFromFnResult, IsFromFnResultFrom}
 use Rattle.std.specs.Prelude.{map, ◌<◌, ◌≤◌}
 use lib.ListN.{length-map, get_or-map, drop_of_length-le}
 use lib.Seq.{take_all}
@@ -16,15 +18,23 @@ use Rattle.std.specs.Prelude.{Option, Some, None, is_some, unwrap_or, Bool, true
 use Rattle.std.specs.Bool.{then_some}
 use Rattle.std.specs.Float.{nan}
 
--- ---- rows, written heater by heater
+-- ---- a row, made by a closure that is called at each place, answers as f and leaves what it reads as it was
 
-module _ {A : Type 0} (f : ℕ → A) where
-  abbrev pub one_at : ℕ → List A → List A
-  one_at h xs = set xs h (f h)
+module _ {F A : Type 0} (g : Mut F (ℕ × Unit {0}) A) (s : F) (f : ℕ → A) (ys : List A) (m : ℕ)
+    (says : (i : ℕ) (y : A) (t : F) → i < m → Called g s (i, tt) y t → (y ≡ f i) × (t ≡ s)) where
+  row_from : (n i : ℕ) (t : F) → length ys ≡ m → t ≡ s → i + n ≡ m → IsFromFnResultFrom g t ys i n → drop i ys ≡ tabulate f n i
+  unfolding tabulate
+  row_from zero i t long e l h = drop_of_length-le ys (omega arith)
+  row_from (suc n) i t long e l (q, y, at, call, rest) =
+      let w = says i y q (omega arith) (subst (λ (k : F). Called g k (i, tt) y q) e call) in
+      let here : i < length ys = omega arith in
+      let next : drop (suc i) ys ≡ tabulate f n (i + 1) = rw (← add-one i) (row_from n (i + 1) q long w.1 (omega arith) rest) in
+      drop-cons ys i y here ∙ rw (at.0, w.0, next)
 
-  pub one_row : (a : A) → iterate one_at max_heaters 0 (replicate max_heaters a) ≡ tabulate f max_heaters 0
-  unfolding iterate tabulate
-  one_row a = refl
+  pub row : IsFromFnResult g s ys m → ys ≡ tabulate f m 0
+  row h = row_from m 0 s h.long refl (omega arith) h.each
+
+-- ---- three rows, written heater by heater
 
 module _ {A : Type 0} (f g e : ℕ → A) where
   abbrev pub three_at : ℕ → List A → List A

@@ -1,10 +1,11 @@
 // Flags, from the bytes that C lends for them and back. C can lend any byte, and a bool has no third value: so bytes are lent, and read here.
+// Kept: flags as bytes: C lends them, and C can lend any.
 ghost use Rattle.std.specs.Prelude.{◌≡◌};
 ghost use Rattle.lent_tank.specs.Flags.{flag_in, byte_of, flags_in, bytes_of};
 
 // A byte is false where it is 0 and true for all others.
 #[tactic(auto, using(crate::proofs::Bytes::flag_test))]
-fn flag_in(byte: u8) -> bool
+pub(crate) fn flag_in(byte: u8) -> bool
     ensures { result ≡ flag_in byte }
 {
     byte != 0
@@ -18,6 +19,7 @@ fn byte_of(flag: bool) -> u8
     u8::from(flag)
 }
 
+// Kept: a loop, here and in `bytes_of`: `map` was tried, by a function's name: it asks that an iterator of N places fits in memory, unknown of any N.
 pub fn flags_in<const N: usize>(bytes: &[u8; N]) -> [bool; N]
     ensures { result ≡ flags_in bytes.now }
 {

@@ -1,5 +1,6 @@
 // A report, from the arrays that hold it and back.
-ghost use Rattle.std.specs.Prelude.{◌≡◌};
+// Kept: `line_flags_of` and `rounds_of`, and `thermostats_of` of tanks, are a line each of `from_fn`: a generic one of them would be no shorter.
+ghost use Rattle.std.specs.Prelude.{◌≡◌, [], ◌∷◌};
 ghost use Rattle.lent_tank.specs.Layout.{lines_in};
 ghost use Rattle.lent_tank.specs.Flags.{flags_in};
 ghost use Rattle.lent_tank.specs.Reports.{report_in, totals_of, figures_of, line_flags_of, rounds_of};
@@ -18,17 +19,13 @@ fn lines_in(
     ensures { result ≡ lines_in figures.now (flags_in flags.now) rounds.now }
 {
     let on = crate::flags::flags_in(flags);
-    let mut lines = [HeaterLine::default(); MAX_HEATERS];
-    for h in 0..MAX_HEATERS {
-        lines[h] = HeaterLine {
-            flag: on[h],
-            adjusted: figures[h],
-            supplied: figures[MAX_HEATERS + h],
-            losses: figures[TWO_EACH + h],
-            rounds: rounds[h],
-        };
-    }
-    lines
+    std::array::from_fn(|h| HeaterLine {
+        flag: on[h],
+        adjusted: figures[h],
+        supplied: figures[MAX_HEATERS + h],
+        losses: figures[TWO_EACH + h],
+        rounds: rounds[h],
+    })
 }
 
 #[tactic(auto, unfolding(crate::specs::Reports::report_in))]
@@ -58,32 +55,24 @@ pub fn totals_of(r: &Report) -> [f64; 4]
 pub fn figures_of(lines: &[HeaterLine; MAX_HEATERS]) -> [f64; THREE_EACH]
     ensures { result ≡ figures_of lines.now }
 {
-    let mut figures = [0.0; THREE_EACH];
-    for h in 0..MAX_HEATERS {
-        let x = lines[h];
-        figures[h] = x.adjusted;
-        figures[MAX_HEATERS + h] = x.supplied;
-        figures[TWO_EACH + h] = x.losses;
-    }
-    figures
+    crate::three_each(
+        lines,
+        |x: HeaterLine| -> [f64; 3]
+            ensures { result ≡ x.adjusted ∷ x.supplied ∷ x.losses ∷ [] }
+        { [x.adjusted, x.supplied, x.losses] },
+    )
 }
 
+#[tactic(auto, unfolding(crate::specs::Reports::line_flags_of, numeric::specs::Tabulate::tabulate))]
 pub fn line_flags_of(lines: &[HeaterLine; MAX_HEATERS]) -> [bool; MAX_HEATERS]
     ensures { result ≡ line_flags_of lines.now }
 {
-    let mut flags = [false; MAX_HEATERS];
-    for h in 0..MAX_HEATERS {
-        flags[h] = lines[h].flag;
-    }
-    flags
+    std::array::from_fn(|h| lines[h].flag)
 }
 
+#[tactic(auto, unfolding(crate::specs::Reports::rounds_of, numeric::specs::Tabulate::tabulate))]
 pub fn rounds_of(lines: &[HeaterLine; MAX_HEATERS]) -> [usize; MAX_HEATERS]
     ensures { result ≡ rounds_of lines.now }
 {
-    let mut rounds = [0; MAX_HEATERS];
-    for h in 0..MAX_HEATERS {
-        rounds[h] = lines[h].rounds;
-    }
-    rounds
+    std::array::from_fn(|h| lines[h].rounds)
 }

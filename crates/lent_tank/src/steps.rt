@@ -7,43 +7,36 @@ ghost use Rattle.lent_tank.specs.Steps.{step_in};
 use crate::TWO_EACH;
 use draw_events::event::MAX_EVENTS;
 use set_points::SetPoints;
-use tank_model::{Setting, Step};
+use tank_model::Step;
 use working_order::MAX_HEATERS;
 
-// A set point that is not present is not looked at.
 #[tactic(auto, unfolding(crate::specs::Layout::points_in))]
-fn points_in(has_lower: bool, has_upper: bool, lower: f64, upper: f64) -> SetPoints
-    ensures { result ≡ points_in has_lower has_upper lower upper }
+fn points_in(lower: Option<f64>, upper: Option<f64>) -> SetPoints
+    ensures { result ≡ points_in lower upper }
 {
-    match (has_lower, has_upper) {
-        (false, false) => SetPoints::Neither,
-        (false, true) => SetPoints::Upper(upper),
-        (true, false) => SetPoints::Lower(lower),
-        (true, true) => SetPoints::Both(lower, upper),
+    match (lower, upper) {
+        (None, None) => SetPoints::Neither,
+        (None, Some(u)) => SetPoints::Upper(u),
+        (Some(l), None) => SetPoints::Lower(l),
+        (Some(l), Some(u)) => SetPoints::Both(l, u),
     }
 }
 
-// The lower set points stand first, then the upper ones.
-pub fn settings_in(present: &[u8; TWO_EACH], points: &[f64; TWO_EACH]) -> [Setting; MAX_HEATERS]
+// The lower set points stand first, then the upper ones. One that is not present is not looked at.
+pub fn settings_in(present: &[u8; TWO_EACH], points: &[f64; TWO_EACH]) -> [SetPoints; MAX_HEATERS]
     ensures { result ≡ settings_in (flags_in present.now) points.now }
 {
     let there = crate::flags::flags_in(present);
-    let mut settings = [Setting {
-        points: SetPoints::Neither,
-    }; MAX_HEATERS];
-    for h in 0..MAX_HEATERS {
-        settings[h] = Setting {
-            points: points_in(
-                there[h],
-                there[MAX_HEATERS + h],
-                points[h],
-                points[MAX_HEATERS + h],
-            ),
-        };
-    }
-    settings
+    std::array::from_fn(|h| {
+        points_in(
+            there[h].then_some(points[h]),
+            there[MAX_HEATERS + h].then_some(points[MAX_HEATERS + h]),
+        )
+    })
 }
 
+// It is inlined at both calls: a step that is handed back as it is would be copied once more.
+#[inline(always)]
 pub fn step_in(
     feed: f64,
     asked: &[usize; 2],

@@ -1,9 +1,11 @@
 // A tank, from the arrays that hold it and back.
-ghost use Rattle.std.specs.Prelude.{◌≡◌};
+ghost use Rattle.std.specs.Prelude.{◌≡◌, [], ◌∷◌, unwrap_or};
+ghost use Rattle.numeric.specs.Double.{zero_f};
 ghost use Rattle.lent_tank.specs.Layout.{fitted_in, heaters_of, thermostats_of};
 ghost use Rattle.lent_tank.specs.Flags.{flags_in};
 ghost use Rattle.lent_tank.specs.Tanks.{cylinder_in, tank_in, design_in, counts_of, numbers_of};
 
+use crate::flags::flag_in;
 use crate::{THREE_EACH, TWO_EACH};
 use cylinder::Cylinder;
 use mixing::limits::MAX_LAYERS;
@@ -35,41 +37,31 @@ pub fn fitted_in(
 ) -> [Heater; MAX_HEATERS]
     ensures { result ≡ fitted_in heaters.now (flags_in thermostats.now) }
 {
-    let present = crate::flags::flags_in(thermostats);
-    let mut fitted = [Heater::default(); MAX_HEATERS];
-    for h in 0..MAX_HEATERS {
-        fitted[h] = Heater {
-            rated: heaters[h],
-            position: heaters[MAX_HEATERS + h],
-            thermostat: present[h].then_some(heaters[TWO_EACH + h]),
-        };
-    }
-    fitted
+    std::array::from_fn(|h| Heater {
+        rated: heaters[h],
+        position: heaters[MAX_HEATERS + h],
+        thermostat: flag_in(thermostats[h]).then_some(heaters[TWO_EACH + h]),
+    })
 }
 
 // An absent thermostat's position is zero.
 pub fn heaters_of(fitted: &[Heater; MAX_HEATERS]) -> [f64; THREE_EACH]
     ensures { result ≡ heaters_of fitted.now }
 {
-    let mut heaters = [0.0; THREE_EACH];
-    for h in 0..MAX_HEATERS {
-        let x = fitted[h];
-        heaters[h] = x.rated;
-        heaters[MAX_HEATERS + h] = x.position;
-        heaters[TWO_EACH + h] = x.thermostat.unwrap_or(0.0);
-    }
-    heaters
+    crate::three_each(
+        fitted,
+        |x: Heater| -> [f64; 3]
+            ensures { result ≡ x.rated ∷ x.position ∷ unwrap_or x.thermostat zero_f ∷ [] }
+        { [x.rated, x.position, x.thermostat.unwrap_or(0.0)] },
+    )
 }
 
 // Whether a thermostat has a position of its own.
+#[tactic(auto, unfolding(crate::specs::Layout::thermostats_of, numeric::specs::Tabulate::tabulate))]
 pub fn thermostats_of(fitted: &[Heater; MAX_HEATERS]) -> [bool; MAX_HEATERS]
     ensures { result ≡ thermostats_of fitted.now }
 {
-    let mut present = [false; MAX_HEATERS];
-    for h in 0..MAX_HEATERS {
-        present[h] = fitted[h].thermostat.is_some();
-    }
-    present
+    std::array::from_fn(|h| fitted[h].thermostat.is_some())
 }
 
 pub fn tank_in(
@@ -108,15 +100,16 @@ pub fn design_in(
 ) -> TankDesign
     ensures { result ≡ design_in counts.now numbers.now initial heaters.now thermostats.now }
 {
+    let c = cylinder_in(counts, numbers);
     TankDesign {
-        layers: counts[0],
-        volume: numbers[0],
-        standby: numbers[1],
+        layers: c.layers,
+        volume: c.volume,
+        standby: c.standby,
         initial,
-        rho: numbers[2],
-        cp: numbers[3],
-        ambient: numbers[4],
-        timestep: numbers[5],
+        rho: c.rho,
+        cp: c.cp,
+        ambient: c.ambient,
+        timestep: c.timestep,
         heaters: counts[1],
         fitted: fitted_in(heaters, thermostats),
     }

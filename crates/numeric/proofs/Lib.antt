@@ -10,5 +10,4 @@ pub mod Finite
 pub mod SameValue
 pub mod Members
 pub mod Within
-pub mod Filling
 pub mod Rising

@@ -1,5 +1,6 @@
--- Proves which terms of a Sum2 bear on it (01, Arithmetic underneath, and Mix: 'terms outside the group times 0'). A zero of either sign changes neither s nor c,
--- so a Sum2 over all layers is the Sum2 over a group's alone. Overflow does no harm: where s overflows, c is not a number from then on, and a zero leaves both.
+-- Proves which terms of a Sum2 bear on it (01, Arithmetic underneath, and Mix: 'terms outside the group times 0'). A zero of either sign changes neither s nor
+-- c, so a Sum2 over all layers is the Sum2 over a group's alone. Overflow does no harm: where s overflows, c is not a number from then on, and a zero leaves
+-- both.
 use mathlib.Core.Path.{◌≡◌, refl, sym, ap, ◌∙◌, subst}
 use mathlib.Core.Logic.{◌⊎◌, ⊎_elim, inl, inr}
 use mathlib.Core.Bool.{Bool, true, false, not}

@@ -1,4 +1,5 @@
--- Proves Close of two numbers above zero (01, Arithmetic underneath): their distance is upper - lower, and the larger magnitude is upper; whichever of them is first.
+-- Proves Close of two numbers above zero (01, Arithmetic underneath): their distance is upper - lower, and the larger magnitude is upper; whichever of them is
+-- first.
 use mathlib.Core.Path.{◌≡◌, refl, sym, ap, ◌∙◌, subst}
 use mathlib.Core.Logic.{⊎_elim}
 use mathlib.Core.Bool.{Bool, true, false, not, cond, ◌&&◌, ◌||◌, true≢false}
@@ -11,7 +12,8 @@ use lib.IntN.{ℤ}
 use lib.Ieee.{Float, nan, inf, fin, Format, binary64, prec, emax, low, up, down, odd, units, round, sum, add, sub, neg, lt, le, eq, fits, of_bits}
 use lib.Ieee.Fits.{up_pos, down_pos, neg-fits}
 use lib.Ieee.Scale.{finite}
-use Rattle.numeric.specs.Double.{◌⊖◌, ◌⊛◌, zero_f, relative_tolerance, narrow_tolerance, wide_tolerance}
+use denote.Floats.{passes}
+use Rattle.numeric.specs.Double.{◌⊖◌, ◌⊛◌, zero_f, relative_tolerance, wide_tolerance}
 use Rattle.numeric.specs.Compare.{max_of2}
 use Rattle.numeric.specs.Close.{magnitude, infinite, within, close, ClosePair}
 use Rattle.numeric.proofs.Zeros.{is_minus_zero, add_not_minus}
@@ -189,11 +191,12 @@ close_pair (fin false m e) (inf false) t p q f z h = infinite_pair m e t f
 close_pair (fin false m e) (fin true n g) t p q f z h = absurd (true≢false (sym h))
 close_pair (fin false m e) (fin false n g) t p q f z h = finite_pair m e t n g (ltb-true (m * up e * down g) (n * up g * down e) h) p q
 
--- the tolerances are finite
-pub narrow_finite : finite narrow_tolerance ≡ true
-unfolding of_bits
-narrow_finite = refl
-
+-- the wide tolerance is finite
 pub wide_finite : finite wide_tolerance ≡ true
 unfolding of_bits
 wide_finite = refl
+
+-- what the code answers, where it comes to `Pair`
+pub closes : (lower upper t : Float) → fits binary64 lower ≡ true → fits binary64 upper ≡ true → (r : Bool) → r ≡ Pair lower upper t
+    → finite t ≡ true → lt zero_f lower ≡ true → lt lower upper ≡ true → ClosePair lower upper t r
+closes lower upper t p q r e f z h = rw e (close_pair lower upper t (passes _ p) (passes _ q) (passes _ f) z h)

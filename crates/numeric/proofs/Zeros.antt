@@ -1,5 +1,5 @@
--- Proves what zeros do in sums and products (01, Arithmetic underneath): x + 0 and x × 1 are x, a finite x times 0 is a zero, and a sum is -0 only where both its
--- parts are. For the last: a sum of two numbers that fit a format is a multiple of its smallest value, so that it is not rounded to zero.
+-- Proves what zeros do in sums and products (01, Arithmetic underneath): x + 0 and x × 1 are x, a finite x times 0 is a zero, and a sum is -0 only where both
+-- its parts are. For the last: a sum of two numbers that fit a format is a multiple of its smallest value, so that it is not rounded to zero.
 use mathlib.Core.Path.{◌≡◌, refl, sym, ap, ◌∙◌, subst}
 use mathlib.Core.Logic.{◌⊎◌, ⊎_elim, inl, inr}
 use mathlib.Core.Bool.{Bool, true, false, not, cond, true≢false}

@@ -11,7 +11,7 @@ pub const NARROW: f64 = 2.220446049250313e-16;
 // The wide one.
 pub const WIDE: f64 = 1e-10;
 
-// Kept: f64::abs gives 0.0 for -0.0, and 01's definition that number itself.
+// Kept: the definition, by which Close is proved, leaves -0.0 as it is; `f64::abs` answers 0.0 for it, so it does not meet this contract.
 #[tactic(auto, unfolding(crate::specs::Close::magnitude))]
 pub fn magnitude_of(x: f64) -> f64
     ensures { result ≡ magnitude x }
@@ -19,6 +19,7 @@ pub fn magnitude_of(x: f64) -> f64
     if x < 0.0 { -x } else { x }
 }
 
+// Kept: one line over the library's, as `is_finite` of compare.
 #[tactic(auto, using(crate::proofs::Infinity::is_infinite_tells))]
 pub fn is_infinite(x: f64) -> bool
     ensures { result ≡ infinite x }
@@ -31,10 +32,7 @@ fn is_within(a: f64, b: f64, e: f64) -> bool
     ensures { result ≡ within a b e }
 {
     let distance = magnitude_of(a - b);
-    if distance <= e {
-        return true;
-    }
-    distance <= 1e-9 * crate::compare::max_of_2(magnitude_of(a), magnitude_of(b))
+    distance <= e || distance <= 1e-9 * crate::compare::max_of_2(magnitude_of(a), magnitude_of(b))
 }
 
 // The same of finite numbers, b above a. Above zero they are their own magnitudes, and b is the larger.
@@ -43,10 +41,7 @@ pub fn is_within_above(a: f64, b: f64, e: f64) -> bool
 {
     if a > 0.0 {
         let distance = b - a;
-        if distance <= 1e-9 * b {
-            return true;
-        }
-        return distance <= e;
+        return distance <= 1e-9 * b || distance <= e;
     }
     is_within(a, b, e)
 }
@@ -56,18 +51,10 @@ pub fn is_within_above(a: f64, b: f64, e: f64) -> bool
 pub fn is_close(a: f64, b: f64, e: f64) -> bool
     ensures { result ≡ close a b e }
 {
-    if a == b {
-        return true;
-    }
-    if is_infinite(a) {
-        return false;
-    }
-    if is_infinite(b) {
-        return false;
-    }
-    is_within(a, b, e)
+    a == b || (!is_infinite(a) && !is_infinite(b) && is_within(a, b, e))
 }
 
+// Kept: this and the next are 01's two words, a line each; one function with the tolerance as its parameter is `is_close`.
 #[tactic(auto, unfolding(crate::specs::Close::narrow_close))]
 pub fn is_narrow_close(a: f64, b: f64) -> bool
     ensures { result ≡ narrow_close a b }
@@ -88,13 +75,7 @@ fn is_close_pair(lower: f64, upper: f64, e: f64) -> bool
     ensures { finite e ≡ true → lt zero_f lower ≡ true → lt lower upper ≡ true → ClosePair lower upper e result }
 {
     let distance = upper - lower;
-    if distance <= e {
-        return true;
-    }
-    if distance <= 1e-9 * upper {
-        return !is_infinite(upper);
-    }
-    false
+    distance <= e || (distance <= 1e-9 * upper && !is_infinite(upper))
 }
 
 // Close of a number and one below it.

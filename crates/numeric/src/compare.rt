@@ -21,6 +21,7 @@ pub fn max_of_2(first: f64, second: f64) -> f64
 }
 
 // Neither infinite nor not-a-number.
+// Kept: one line over the library's, whose contract has a `finite` of its own: by this one no caller cites the lemma that both are one.
 #[tactic(auto, using(crate::proofs::Infinity::is_finite_tells))]
 pub fn is_finite(x: f64) -> bool
     ensures { result ≡ finite x }
@@ -36,6 +37,7 @@ pub fn is_finite_above_zero(x: f64) -> bool
 }
 
 // Equal doubles are the same where they are above zero.
+// Kept: a name for `==`, as its contract says what that does not: what equals a number above zero is that number. Else each caller's proof would cite the law.
 pub fn is_same(x: f64, y: f64) -> bool
     ensures { SaysSame x y result }
 {

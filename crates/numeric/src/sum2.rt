@@ -3,7 +3,7 @@ ghost use Rattle.std.specs.Prelude.{◌≡◌};
 ghost use Rattle.numeric.specs.Sum2.{nothing_added, accumulate, total};
 
 // The running sum and its correction.
-#[derive(Clone, Copy)]
+#[derive(Clone, Copy, Default)]
 pub struct Accumulator {
     pub s: f64,
     pub c: f64,
@@ -13,7 +13,7 @@ impl Accumulator {
     pub fn start() -> Accumulator
         ensures { result ≡ nothing_added }
     {
-        Accumulator { s: 0.0, c: 0.0 }
+        Accumulator::default()
     }
 
     #[tactic(auto, unfolding(crate::specs::Sum2::accumulate))]

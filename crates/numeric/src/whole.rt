@@ -4,6 +4,7 @@ ghost use Rattle.numeric.specs.Double.{whole};
 ghost use Rattle.numeric.specs.Whole.{whole_below, layer_of};
 
 // Every whole number up to 2^53 is a double.
+// Kept: the bound, at each of the three. A `u32` has none (`f64::from`), but a count of layers is a `usize`: each caller would cast it, and owe a bound there.
 pub fn whole_of(n: usize) -> f64
     requires { n ≤ 9007199254740992 }
     ensures { result ≡ whole n }

@@ -1,5 +1,4 @@
-// A mixing as its definition says it, on lent layers: one round, and all rounds. Every sum of a round runs over all layers.
+// A round of a mixing as its definition says it, on lent layers: every sum of it runs over all layers; and whether layers are in order.
 #![tactic(auto)]
 
-pub mod plain;
 pub mod round;

@@ -6,14 +6,28 @@ pub mod mix;
 ghost use Rattle.std.specs.Prelude.{◌≤◌};
 ghost use Rattle.mixing.specs.Limits.{max_layers};
 ghost use Rattle.mixing.specs.Mix.{Rearranged};
+ghost use Rattle.running_group.specs.Rounds.{RoundWorked};
 
 use mixing::limits::MAX_LAYERS;
 use refusals::Refusal;
 
-// Works in place; a refused mixing puts back what it found. A round is worked over the running group's layers alone; where a volume × temperature is not
-// finite, which no ordinary layers have, the mixing is worked again from the start, each sum over all layers.
-// Kept: its loop and rearrange_plain's are two, as one of both would take the round as a closure with three answers, and a start that either keeps or copies.
-// Kept: n beside the arrays, by the rule of 32 places and a count; a struct of n and vol would be built at each of the few calls, with the same fact to prove.
+// A round in place; the answer is whether the layers are in order after it. It is worked over the running group's layers alone; where a product of volume and
+// temperature is not finite, which no ordinary layers have, it is worked again, each sum over all layers.
+fn work_round(n: usize, vol: &[f64; MAX_LAYERS], temps: &mut [f64; MAX_LAYERS]) -> bool
+    requires { (1 ≤ n) × (n ≤ max_layers) }
+    ensures { RoundWorked n vol.now temps.old temps.new result }
+{
+    let before = *temps;
+    if let Some(sorted) = running_group::round::try_round(n, vol, temps) {
+        return sorted;
+    }
+    *temps = before;
+    plain_mixing::round::mix_round(n, vol, temps);
+    plain_mixing::round::is_sorted(n, temps)
+}
+
+// Works in place; a refused mixing puts back what it found.
+// Kept: n beside the arrays, here and above: 01's definitions (Mix) speak of n layers in 32 places, and so do the contracts; a slice would be another list.
 pub fn rearrange_temperatures(
     n: usize,
     vol: &[f64; MAX_LAYERS],
@@ -23,12 +37,9 @@ pub fn rearrange_temperatures(
     ensures { Rearranged n vol.now temps.old result temps.new }
 {
     let initial = *temps;
-    let limit = mixing::limits::max_rounds(n);
-    for k in 0..limit {
-        match running_group::round::try_round(n, vol, temps) {
-            Some(true) => return Ok(k + 1),
-            Some(false) => {}
-            None => return plain_mixing::plain::rearrange_plain(n, vol, &initial, temps),
+    for k in 0..mixing::limits::max_rounds(n) {
+        if work_round(n, vol, temps) {
+            return Ok(k + 1);
         }
     }
     *temps = initial;

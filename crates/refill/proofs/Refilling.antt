@@ -1,5 +1,5 @@
--- Proves that the refill may read the temperatures where it writes them (01, Refill): a layer and its donors are read before any of them is written, so what is read
--- is from before the event.
+-- Proves that the refill may read the temperatures where it writes them (01, Refill): a layer and its donors are read before any of them is written, so what is
+-- read is from before the event.
 use Prim.Native.Nat.{ℕ, zero, suc, ◌+◌, ◌-◌, ◌<◌}
 use native.Mathlib.Omega.{arith}
 use mathlib.Core.Path.{◌≡◌, refl, ◌∙◌}

@@ -1,9 +1,9 @@
--- Proves that a layer that repeats may be filled by the volumes kept of the layer above it (01, Refill): that is one turn of the refill, and it leaves the layer below
--- to repeat in its turn.
+-- Proves that a layer that repeats may be filled by the volumes kept of the layer above it (01, Refill): that is one turn of the refill, and it leaves the
+-- layer below to repeat in its turn.
 use Prim.Native.Nat.{ℕ, zero, suc, ◌-◌, ◌<◌}
 use native.Mathlib.Omega.{arith}
 use mathlib.Core.Path.{◌≡◌, refl, sym, ◌∙◌}
-use mathlib.Core.Bool.{Bool, true, false, cond, ◌||◌, true≢false}
+use mathlib.Core.Bool.{Bool, true, false, cond, true≢false}
 use mathlib.Core.List.{List, [], ◌∷◌}
 use lib.ListN.{length, get_or, set}
 use lib.Seq.{get_or-set_same, get_or-set_other}

@@ -1,5 +1,5 @@
 -- Proves that a refusal's number tells the refusal: no two have one number, and none has 0.
-use Rattle.std.specs.Prelude.{◌≡◌, refl}
+use Rattle.std.specs.Prelude.{◌≡◌, refl, Bool, true, false, cond, Result, Ok, Err}
 use Rattle.std.proofs.Common.{sym, ap, ◌∙◌}
 use Rattle.refusals.specs.declared.Refusal.{Refusal}
 use Rattle.refusals.specs.declared.Refusal.TheVariants.{LayerCount, HeaterCount, NotAboveZero, Temperature, Heater, StepCounts, Draw, LowerAlone, OutOfOrder}
@@ -41,3 +41,19 @@ number-not_0 NotFinite h = cc
 number-not_0 Record h = cc
 number-not_0 SetPointNotFinite h = cc
 number-not_0 LowerAboveUpper h = cc
+
+-- what `unless` answers tells whether it passes
+module _ (passes : Bool) (r : Refusal) (answer : Result (Unit {0}) Refusal) (told : answer ≡ cond passes (Ok tt) (Err r)) where
+  pub unless_passed : (v : Unit {0}) → answer ≡ Ok v → passes ≡ true
+  unless_passed v e = go passes told
+    where
+      go : (b : Bool) → answer ≡ cond b (Ok tt) (Err r) → b ≡ true
+      go true h = refl
+      go false h = cc
+
+  pub unless_refused : (s : Refusal) → answer ≡ Err s → (passes ≡ false) × (s ≡ r)
+  unless_refused s e = go passes told
+    where
+      go : (b : Bool) → answer ≡ cond b (Ok tt) (Err r) → (b ≡ false) × (s ≡ r)
+      go true h = cc
+      go false h = (refl, cc)

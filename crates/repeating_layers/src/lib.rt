@@ -22,23 +22,15 @@ fn does_repeat(full: f64, held: f64) -> bool
     ensures { result ≡ true → Repeats full held }
 {
     let lack = full - held;
-    // Tests that leave at once: as one `&&` all of them are worked.
-    if cylinder::is_no_volume(lack) {
-        return false;
-    }
-    if !(lack < full) {
-        return false;
-    }
-    if !(full > 0.0) {
-        return false;
-    }
-    if !(held > 0.0) {
-        return false;
-    }
-    numeric::compare::is_same(full - lack, held)
+    !cylinder::is_no_volume(lack)
+        && lack < full
+        && full > 0.0
+        && held > 0.0
+        && numeric::compare::is_same(full - lack, held)
 }
 
 // The volumes of the layer under n, if it repeats.
+// Kept: n beside the arrays: were the layer's two volumes the parameters, both calls would ask first whether there is a layer under n.
 pub fn keep_filling(
     n: usize,
     vol: &[f64; MAX_LAYERS],
@@ -66,6 +58,7 @@ pub fn keep_filling(
 
 impl KeptFilling {
     // Whether the layer i, whose volumes these are, stands over a full one as large.
+    // Kept: `i < max_layers`: the loop over the layers knows it of its range; a type of places would be built at each pass, to say it again.
     pub fn is_over_full(self, i: usize, vol: &[f64; MAX_LAYERS], held: &[f64; MAX_LAYERS]) -> bool
         requires { (i < max_layers) × RepeatsAt vol.now held.now i self }
         ensures { result ≡ true → OverFull vol.now held.now i self }

@@ -48,8 +48,7 @@ module _ (n : ℕ) (vol first : List Float) (i : ℕ) (w : List Float) (below : 
     group_finite = λ k l u. rw s.temp_is (only i k (λ (k : ℕ). T (finite (get_or vol k nan ⊛ get_or w i nan))) (rw (← s.bottom_is) l) u (fine i h));
     heat = rw (s.bottom_is, s.temp_is) (s.heat_is (fine i h) ∙ sym (one_sum (λ (k : ℕ). get_or vol k nan ⊛ get_or w i nan) i));
     volume = rw s.bottom_is (s.volume_is (fine i h) ∙ sym (one_sum (λ (k : ℕ). get_or vol k nan ⊛ one_f) i));
-    each_fits = rw s.each_is s.volume_fits;
-    each = λ m k l u. rw s.each_is (only i k (λ (k : ℕ). SameValue (get_or vol k nan) (get_or vol i nan)) (rw (← s.bottom_is) l) u (inl refl));
+    each = rw s.each_is (record { volume_fits = s.volume_fits; has = λ k l u. only i k (λ (k : ℕ). SameValue (get_or vol k nan) (get_or vol i nan)) (rw (← s.bottom_is) l) u (inl refl) });
     one_layer = λ e. s.temp_is;
     below = rw (s.below_is, s.bottom_is) b;
     order = rw (s.sorted_is, s.bottom_is) o;

@@ -1,5 +1,5 @@
 -- States what the functions that work a round answer, by what they keep (01, Mix): a group that starts or ends, a pair, and a round.
-use Rattle.std.specs.Prelude.{ℕ, ◌+◌, ◌≤◌, ◌<◌, Bool, ◌≡◌, List, T, Float, Option}
+use Rattle.std.specs.Prelude.{ℕ, ◌+◌, ◌≤◌, ◌<◌, Bool, ◌≡◌, List, T, Float, Option, Some}
 use Rattle.std.specs.Option.{IfSome}
 use Rattle.std.specs.Float.{binary64}
 use Rattle.std.specs.Float.Ieee.{fits}
@@ -15,7 +15,7 @@ use Rattle.layer_joining.specs.Running.{Follows}
 pub record Started (i : ℕ) (temp v : Float) (below : Option Float) (sorted : Bool) (met : Float) (q : RunningGroup) : Type 0 where
   pub bottom_is : q.bottom ≡ i
   pub temp_is : q.temp ≡ temp
-  pub each_is : q.each ≡ v
+  pub each_is : q.each ≡ Some v
   pub below_is : q.below ≡ below
   pub sorted_is : q.sorted ≡ sorted
   pub met_is : q.met ≡ met ⊕ (v ⊛ temp)

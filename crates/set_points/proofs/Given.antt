@@ -1,11 +1,11 @@
--- Proves what it tells of a heater's set points that one of them is given, or is not.
+-- Proves what it tells of a heater's set points that the upper one is given, or is not.
 use Rattle.std.specs.Prelude.{◌≡◌, refl, Bool, true, false, cond, Some, None, Float}
 use Rattle.std.proofs.Common.{arith}
 use Rattle.std.specs.Option.{is_some, unwrap_or}
 use Rattle.std.specs.Float.{nan}
 use Rattle.set_points.specs.declared.SetPoints.{SetPoints}
 use Rattle.set_points.specs.declared.SetPoints.TheVariants.{Neither, Lower, Upper, Both}
-use Rattle.set_points.specs.SetPoints.{has_lower, has_upper, lower_of, upper_of, given_lower, given_upper}
+use Rattle.set_points.specs.SetPoints.{has_upper, upper_of, given_upper}
 
 some_given : (b : Bool) (x y : Float) → Some y ≡ cond b (Some x) None → (b ≡ true) × (x ≡ y)
 some_given true x y e = grind arith
@@ -14,12 +14,6 @@ some_given false x y e = grind arith
 none_given : (b : Bool) (x : Float) → None ≡ cond b (Some x) None → b ≡ false
 none_given true x e = grind arith
 none_given false x e = refl
-
-pub lower_given : (p : SetPoints) (l : Float) → Some l ≡ given_lower p → (has_lower p ≡ true) × (lower_of p ≡ l)
-lower_given p l e = some_given (has_lower p) (lower_of p) l e
-
-pub lower_missing : (p : SetPoints) → None ≡ given_lower p → has_lower p ≡ false
-lower_missing p e = none_given (has_lower p) (lower_of p) e
 
 pub upper_given : (p : SetPoints) (u : Float) → Some u ≡ given_upper p → (has_upper p ≡ true) × (upper_of p ≡ u)
 upper_given p u e = some_given (has_upper p) (upper_of p) u e

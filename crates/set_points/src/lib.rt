@@ -5,8 +5,9 @@ ghost use Rattle.std.specs.Prelude.{◌≡◌};
 ghost use Rattle.set_points.specs.SetPoints.{given_lower, given_upper};
 
 // A heater's set points: neither, the lower only, the upper only, or both, the lower one first.
-#[derive(Clone, Copy)]
+#[derive(Clone, Copy, Default)]
 pub enum SetPoints {
+    #[default]
     Neither,
     Lower(f64),
     Upper(f64),

@@ -17,7 +17,7 @@ use Rattle.storage_tank.specs.declared.StorageTank.{StorageTank}
 use Rattle.storage_tank.specs.declared.Report.{Report}
 use Rattle.storage_tank.specs.declared.Stepped.{Stepped}
 use Rattle.storage_tank.specs.Tank.{fixed_in, state_in}
-use Rattle.storage_tank.specs.Calls.{stepped}
+use Rattle.storage_tank.specs.Calls.{report_by, stepped}
 use Rattle.storage_tank.proofs.Answers.{step_refused, step_accepted}
 use Rattle.storage_tank.proofs.Calls.{refused_step}
 use Rattle.lent_tank.specs.Layout.{lines_in}
@@ -139,7 +139,7 @@ module _ (counts : List ℕ) (numbers temps heaters : List Float) (thermostats f
     -- an accepted step, from what its work answers and leaves; the arrays that it does not write hold the rest of its tank
     pub accepted_in_place : (y : StepFigures) → StepWorked f (state_in lent_tank) a (Ok y) st x0 x
         → (flags' : List ℕ) → flags' ≡ bytes_of st.flags → (totals' figures' : List Float) (lineFlags' rounds' : List ℕ)
-        → ReportWritten (record { energy = y.totals.energy; used = y.totals.used; average = y.average; recoverable = y.recoverable; lines = x.lines }) totals' figures' lineFlags' rounds'
+        → ReportWritten (report_by y x.lines) totals' figures' lineFlags' rounds'
         → StepLeft (stepped lent_tank lent_report a) heaters thermostats flags lineFlags 0 counts numbers st.temps heaters thermostats flags' totals' figures' lineFlags' rounds'
     unfolding bytes_left
     accepted_in_place y w flags' d totals' figures' lineFlags' rounds' r =

@@ -17,7 +17,7 @@ use Rattle.tank_model.specs.Checks.{make_refusal}
 use Rattle.tank_model.specs.Run.{End, refused, done}
 use Rattle.tank_model.specs.Work.{Outcome, work}
 use Rattle.refusals.specs.Refusals.{number_in}
-use Rattle.lent_tank.specs.Layout.{heater_in, fitted_in, heaters_of, thermostats_of, lines_in}
+use Rattle.lent_tank.specs.Layout.{fitted_in, heaters_of, thermostats_of, lines_in}
 use Rattle.lent_tank.proofs.Places.{places, heaters_back, thermostats_back}
 use Rattle.storage_tank.specs.declared.StorageTank.{StorageTank}
 use Rattle.storage_tank.specs.declared.Report.{Report}
@@ -47,10 +47,6 @@ module _ (bytes : List ℕ) (long : length bytes ≡ 8) where
 -- a tank that was written is read as it is
 pub written_read : (t : StorageTank) (counts : List ℕ) (numbers temps heaters : List Float) (thermostats flags : List ℕ) → TankWritten t counts numbers temps thermostats flags → heaters ≡ heaters_of t.fitted → length t.fitted ≡ max_heaters → tank_in counts numbers temps heaters thermostats flags ≡ t
 written_read t counts numbers temps heaters thermostats flags w h long = rw (w.held.counts_held, w.held.numbers_held, w.held.temps_held, h, w.thermostats_written, w.flags_written, flags_back (thermostats_of t.fitted), flags_back t.flags, heaters_back t.fitted long)
-
-fitted_long : (heaters : List Float) (thermostats : List Bool) → length (fitted_in heaters thermostats) ≡ max_heaters
-unfolding fitted_in
-fitted_long heaters thermostats = length_tabulate (heater_in heaters thermostats) max_heaters 0
 
 -- ---- make
 

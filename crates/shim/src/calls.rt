@@ -14,7 +14,6 @@ use lent_tank::{THREE_EACH, TWO_EACH};
 use mixing::limits::MAX_LAYERS;
 use refusals::number_in;
 use storage_tank::{Report, StorageTank};
-use tank_model::Step;
 use working_order::MAX_HEATERS;
 
 // Mixes layers of one volume. `rounds` is how many were run, 0 where refused.
@@ -118,28 +117,20 @@ pub extern "C" fn huszmago_step(
 {
     let c = lent_tank::tanks::cylinder_in(counts, numbers);
     let fitted = lent_tank::tanks::fitted_in(heaters, thermostats);
-    // Kept: made here. A step that `step_in` hands back was tried, is copied once more, and made a small step slower.
-    let a = Step {
-        feed,
-        events: asked[0],
-        volumes: *volumes,
-        entries: asked[1],
-        settings: lent_tank::steps::settings_in(present, points),
-    };
+    let a = lent_tank::steps::step_in(feed, asked, volumes, present, points);
     let mut on = lent_tank::flags::flags_in(flags);
     let mut notes = heater_turns::no_notes();
     let worked = step_work::work::work_step(c, counts[1], &fitted, &a, temps, &mut on, &mut notes);
     match worked {
         Ok(w) => {
-            let report = Report {
-                energy: w.totals.energy,
-                used: w.totals.used,
-                average: w.average,
-                recoverable: w.recoverable,
-                lines: notes.lines,
-            };
             *flags = lent_tank::flags::bytes_of(&on);
-            put_report(&report, totals, figures, line_flags, rounds);
+            put_report(
+                &Report::of(w, notes.lines),
+                totals,
+                figures,
+                line_flags,
+                rounds,
+            );
             0
         }
         Err(refusal) => refusal.number(),

@@ -1,5 +1,5 @@
--- Proves that a Sum2 of four and of five equal terms b, above zero, is known at once (01, Arithmetic underneath): four have the sum 4 b and lose nothing, and five
--- have the sum 5 b.
+-- Proves that a Sum2 of four and of five equal terms b, above zero, is known at once (01, Arithmetic underneath): four have the sum 4 b and lose nothing, and
+-- five have the sum 5 b.
 use mathlib.Core.Path.{◌≡◌, refl, sym, ap, ◌∙◌, subst}
 use mathlib.Core.Bool.{true, false, not}
 use Prim.Native.Nat.{ℕ, ◌+◌, ◌*◌, ◌<◌}

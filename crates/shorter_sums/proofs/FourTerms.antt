@@ -1,5 +1,5 @@
--- Proves what a Sum2 of four equal terms p loses where p + p + p + p, rounded at each sum, is 4 p (01, Arithmetic underneath): nothing. What the third sum loses, the
--- fourth gives back: the two errors are opposite.
+-- Proves what a Sum2 of four equal terms p loses where p + p + p + p, rounded at each sum, is 4 p (01, Arithmetic underneath): nothing. What the third sum
+-- loses, the fourth gives back: the two errors are opposite.
 use mathlib.Core.Path.{◌≡◌, refl, sym, ap, ◌∙◌, subst}
 use mathlib.Core.Logic.{⊎_elim}
 use mathlib.Core.Bool.{Bool, true, false, not}

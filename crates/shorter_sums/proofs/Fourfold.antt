@@ -1,5 +1,5 @@
--- Proves that p + p + p + p, rounded at each sum, is 4 p where p is above zero and 4 p is finite (01, Arithmetic underneath). In units of the smallest value, 3 p is off its
--- rounded sum by at most half a unit in the last place; 4 p is at that distance, or nearer, from the next sum, and in a tie it is the even one.
+-- Proves that p + p + p + p, rounded at each sum, is 4 p where p is above zero and 4 p is finite (01, Arithmetic underneath). In units of the smallest value,
+-- 3 p is off its rounded sum by at most half a unit in the last place; 4 p is at that distance, or nearer, from the next sum, and in a tie it is the even one.
 use mathlib.Core.Path.{◌≡◌, refl, sym, ap, ◌∙◌, subst}
 use mathlib.Core.Logic.{◌⊎◌, ⊎_elim, inl, inr}
 use mathlib.Core.Bool.{Bool, true, false, not}

@@ -1,5 +1,5 @@
--- Proves Sterbenz's lemma (01, Arithmetic underneath): where x is at least a and at most twice a, both above zero, x - a is exact. So where 0 < b ≤ a and x is their
--- rounded sum, x - (x - a) is a.
+-- Proves Sterbenz's lemma (01, Arithmetic underneath): where x is at least a and at most twice a, both above zero, x - a is exact. So where 0 < b ≤ a and x
+-- is their rounded sum, x - (x - a) is a.
 use mathlib.Core.Path.{◌≡◌, refl, sym, ap, ◌∙◌, subst}
 use mathlib.Core.Logic.{⊎_elim}
 use mathlib.Core.Bool.{Bool, true, false, not, true≢false}

@@ -1,6 +1,7 @@
 -- Proves how the parts of a step's code work out its answer (01, Step): the checks, the events, the turns, and what the end looks at, each of which may refuse it.
 use Rattle.std.proofs.Common.{replicate, subst, ◌≡◌, refl, sym, ap, ◌∙◌, ℕ, zero, suc, ◌-◌, ◌≤◌, Bool, true, false, List, [], ◌∷◌, get_or, length, take, Float}
 use Rattle.std.specs.Prelude.{cond, ◌&&◌, Result, Ok, Err}
+use Rattle.std.specs.List.{list_all}
 use Rattle.std.specs.Float.{nan}
 use Rattle.std.specs.Float.Ieee.Scale.{finite}
 use Rattle.refusals.specs.declared.Refusal.{Refusal}
@@ -27,6 +28,14 @@ use Rattle.heater_turns.specs.declared.TurnState.{TurnState}
 use Rattle.heater_turns.specs.Notes.{with_turns}
 use Rattle.heater_turns.specs.Lent.{unheated as fresh, uncounted, heating_in, TurnsEnd, turns_by, TurnsWorked}
 use Rattle.step_work.specs.Lent.{state_of, StepWorked}
+
+-- of two numbers each is finite
+pub both_finite : (x y : Float) → (finite x && finite y) ≡ list_all finite (x ∷ y ∷ [])
+both_finite x y = ap (λ (b : Bool). finite x && b) (go (finite y))
+  where
+    go : (b : Bool) → b ≡ (b && true)
+    go true = refl
+    go false = refl
 
 -- ---- the events in a row, as `draw_events` works them, are the run of the events
 
@@ -88,7 +97,19 @@ module _ (f : Fixed) (st : State) (a : Step) (x0 : TurnNotes) where
   pub checks_refuse : (r : Refusal) → number_of r ≡ step_refusal f st a → StepWorked f st a (Err r) st x0 (uncounted x0)
   checks_refuse r e = refused_before r (step_refused (number_of r) e (number-not_0 r))
 
-  module _ (passed : step_refusal f st a ≡ 0) where
+  -- what stands where the events begin: the checks have passed, g is the tank, and t0, what has been drawn, is nothing
+  pub record Begun (g : Fixed) (t0 : Totals) : Type 0 where
+    pub passed : step_refusal f st a ≡ 0
+    pub tank_is : g ≡ f
+    pub no_lines : x0.lines ≡ replicate max_heaters zero_line
+    pub long : a.events ≤ length a.volumes
+    pub none_drawn : t0 ≡ no_totals
+
+  module _ (g : Fixed) (t0 : Totals) (b : Begun g t0) where
+    -- the state on which the step is worked
+    abbrev s0 : TurnState
+    s0 = fresh st.temps st.flags
+
     -- the work, from where the events ended
     abbrev after : End DrawOff → Run Turn Outcome
     after e = seen (then_turns f st a [] e)
@@ -98,25 +119,23 @@ module _ (f : Fixed) (st : State) (a : Step) (x0 : TurnNotes) where
     end_only es (refused n) = refl
     end_only es (done s) = refl
 
-    -- g is the tank, and s0 the state on which the step is worked; `temps` are the layers that the events leave, d what they answer, t what they
-    -- have drawn
-    module _ (g : Fixed) (g-is : g ≡ f) (s0 : TurnState) (s0-is : s0 ≡ fresh st.temps st.flags) (no_lines : x0.lines ≡ replicate max_heaters zero_line)
-        (long : a.events ≤ length a.volumes) (t0 : Totals) (none_drawn : t0 ≡ no_totals) (temps : List Float) (d : Result (Unit {0}) Refusal) (t : Totals)
-        (drawn : drawing_of temps d t ≡ draw_all g.cylinder g.vol (feed_in a) (take a.events a.volumes) 0 s0.temps t0) where
+    -- `temps` are the layers that the events leave, d what they answer, t what they have drawn
+    module _ (temps : List Float) (d : Result (Unit {0}) Refusal) (t : Totals)
+        (drawn : drawing_of temps d t ≡ draw_all g.cylinder g.vol (feed_in a) (take a.events a.volumes) 0 s0.layers.temps t0) where
       -- the state after the events, which charge no layer
       abbrev pub drawn_state : List Float → TurnState
-      drawn_state left = record { temps = left; charged = s0.charged; flags = s0.flags; losses = s0.losses }
+      drawn_state left = record { layers = record { temps = left; charged = s0.layers.charged }; flags = s0.flags; losses = s0.losses }
 
       abbrev drawn_off : DrawOff
       drawn_off = record { temps = temps; totals = t }
 
       drawn_is : drawing_of temps d t ≡ draw_all c f.vol (feed_in a) (wanted_volumes a) 0 st.temps no_totals
-      drawn_is = rw (g-is, none_drawn, s0-is, first_taken a.volumes a.events long) at drawn
+      drawn_is = rw (b.tank_is, b.none_drawn, first_taken a.volumes a.events b.long) at drawn
 
       end_is : seen (work f st a) ≡ after (end_by (number_in d) drawn_off)
       unfolding work begin events
       end_is =
-          rw passed
+          rw b.passed
           (end_only _ _
           ∙ ap after (events_run f (feed_in a) (wanted_volumes a) (record { temps = st.temps; totals = no_totals }) ∙ ap (λ (y : Drawing). end_by y.number (drawn_at y)) (sym drawn_is)))
 
@@ -138,10 +157,10 @@ module _ (f : Fixed) (st : State) (a : Step) (x0 : TurnNotes) where
 
         heated_is : TurnsWorked f a.settings (working_order f) (unheated temps st.flags) (uncounted x0) (number_in h) left x
         heated_is =
-            subst (λ (y : Heating). TurnsWorked f a.settings (working_order f) y (uncounted x0) (number_in h) left x) opened (rw g-is at heated)
+            subst (λ (y : Heating). TurnsWorked f a.settings (working_order f) y (uncounted x0) (number_in h) left x) opened (rw b.tank_is at heated)
           where
             opened : heating_in (drawn_state temps) (uncounted x0) ≡ unheated temps st.flags
-            opened = rw (s0-is, no_lines)
+            opened = rw b.no_lines
 
         abbrev turned : Run Turn Heating
         turned = turns f (points_of a) temps st.flags
@@ -189,7 +208,7 @@ module _ (f : Fixed) (st : State) (a : Step) (x0 : TurnNotes) where
 
           -- it is accepted
           pub end_accepts : is_finite ≡ true
-              → StepWorked f st a (Ok (record { totals = t; average = average; recoverable = s.losses ⊛ three_quarters })) (state_of s.temps s.flags) x0 x
+              → StepWorked f st a (Ok (record { totals = t; average = average; recoverable = s.losses ⊛ three_quarters })) (state_of s.layers.temps s.flags) x0 x
           unfolding end_by recoverable
           end_accepts e = record {
             ends = (outcome, ap (λ (r : Run Turn Outcome). r.end) closed_is ∙ rw e, record { temps_are = refl; totals_are = refl; average_is = refl; flags_are = refl; lines_are = refl; recoverable_is = refl });

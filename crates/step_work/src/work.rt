@@ -1,10 +1,8 @@
 // A step's work, from checks to end, on what both calls lend.
-ghost use Rattle.std.specs.Prelude.{◌≡◌, cond, ◌&&◌, ◌-◌, ◌≤◌, get_or, replicate};
-ghost use Rattle.std.specs.Float.{nan};
-ghost use Rattle.std.specs.Float.Ieee.Scale.{finite};
+// Kept: a count beside the heaters' array: a tank may hold any count, which check 2 refuses, and no slice can be cut before it.
+ghost use Rattle.std.specs.Prelude.{◌≡◌, cond, replicate};
 ghost use Rattle.numeric.specs.Double.{◌⊘◌, zero_f};
 ghost use Rattle.numeric.specs.Close.{wide_close};
-ghost use Rattle.mixing.specs.Limits.{max_layers};
 ghost use Rattle.working_order.specs.Order.{max_heaters};
 ghost use Rattle.tank_model.specs.Fixed.{placed_heaters, fixed_by};
 ghost use Rattle.tank_model.specs.Work.{zero_line};
@@ -15,27 +13,20 @@ use draw_events::Totals;
 use draw_off::cold::Feed;
 use heater_turns::TurnState;
 use mixing::limits::MAX_LAYERS;
-use numeric::compare::is_finite;
 use refusals::Refusal;
 use tank_model::{Heater, Step, TurnNotes};
+use thermal_losses::ChargedLayers;
 use working_order::MAX_HEATERS;
 
 // Weighted sum / volume drawn, or the top layer if that volume is wide-close to 0.
-fn average_of(n: usize, temps: &[f64; MAX_LAYERS], t: Totals) -> f64
-    requires { (1 ≤ n) × (n ≤ max_layers) }
-    ensures { result ≡ cond (wide_close t.drawn zero_f) (get_or temps.now (n - 1) nan) (t.weighted ⊘ t.drawn) }
+fn average_of(top: f64, t: Totals) -> f64
+    ensures { result ≡ cond (wide_close t.drawn zero_f) top (t.weighted ⊘ t.drawn) }
 {
     if numeric::close::is_wide_close(t.drawn, 0.0) {
-        temps[n - 1]
+        top
     } else {
         t.weighted / t.drawn
     }
-}
-
-fn are_both_finite(x: f64, y: f64) -> bool
-    ensures { result ≡ (finite x && finite y) }
-{
-    is_finite(x) && is_finite(y)
 }
 
 // What an accepted step comes to, besides its layers, its flags and what its turns note: what it has drawn, and the two figures of its end.
@@ -64,26 +55,29 @@ pub fn work_step(
     notes.worked = 0;
     tank_refusals::calls::step_refusal(c, n, fitted, temps, a)?;
     let tank = LayeredCylinder::new(c);
-    // Kept: made here. A state that a function hands back was tried, is copied twice more, and made a small step a fifth slower.
+    // Kept: a literal: `TurnState::new(temps, flags)` would write its fields too, its contract again, and nothing else would call it.
     let mut state = TurnState {
-        temps: *temps,
-        charged: [0.0; MAX_LAYERS],
+        layers: ChargedLayers {
+            temps: [0.0; MAX_LAYERS],
+            charged: [0.0; MAX_LAYERS],
+        },
         flags: *flags,
         losses: 0.0,
     };
+    // Written after it: within the literal they would be copied once more, 82 instructions a step and 512 bytes of stack.
+    state.layers.temps = *temps;
     let mut totals = Totals::default();
     let feed = Feed {
         temperature: a.feed,
     };
     let volumes = &a.volumes[..a.events];
-    draw_events::event::draw_events(&tank, feed, volumes, &mut state.temps, &mut totals)?;
-    let average = average_of(c.layers, &state.temps, totals);
-    heater_turns::heat_turns(&tank, n, fitted, &a.settings, &mut state, notes)?;
+    draw_events::event::draw_events(&tank, feed, volumes, &mut state.layers.temps, &mut totals)?;
+    let average = average_of(state.layers.temps[c.layers - 1], totals);
+    heater_turns::heat_turns(&tank, &fitted[..n], &a.settings, &mut state, notes)?;
     let recoverable = state.losses * 0.75;
-    if !are_both_finite(average, recoverable) {
-        return Err(Refusal::NotFinite);
-    }
-    *temps = state.temps;
+    let is_finite = cylinder::is_each_finite(&[average, recoverable]);
+    refusals::unless(is_finite, Refusal::NotFinite)?;
+    *temps = state.layers.temps;
     *flags = state.flags;
     Ok(StepFigures {
         totals,

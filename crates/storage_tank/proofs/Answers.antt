@@ -25,7 +25,7 @@ use Rattle.storage_tank.specs.declared.StorageTank.{StorageTank}
 use Rattle.storage_tank.specs.declared.Report.{Report}
 use Rattle.storage_tank.specs.declared.Stepped.{Stepped}
 use Rattle.storage_tank.specs.Tank.{fixed_in, state_in}
-use Rattle.storage_tank.specs.Calls.{zero_tank, new_tank, made, made_of, answer, stepped}
+use Rattle.storage_tank.specs.Calls.{zero_tank, new_tank, made, made_of, report_by, answer, stepped}
 use Rattle.storage_tank.specs.Answers.{work_of, StepNoted}
 
 -- ---- make
@@ -84,7 +84,7 @@ module _ (t : StorageTank) (r : Report) (a : Step) (f : Fixed) (f-is : f ≡ fix
         stepped = record {
           outcome = Ok tt;
           tank = with_state t st;
-          report = record { energy = w.totals.energy; used = w.totals.used; average = w.average; recoverable = w.recoverable; lines = x.lines };
+          report = report_by w x.lines;
         };
         notes = x;
       })
@@ -94,7 +94,7 @@ module _ (t : StorageTank) (r : Report) (a : Step) (f : Fixed) (f-is : f ≡ fix
       answered = record {
         outcome = Ok tt;
         tank = with_state t st;
-        report = record { energy = w.totals.energy; used = w.totals.used; average = w.average; recoverable = w.recoverable; lines = x.lines };
+        report = report_by w x.lines;
       }
 
       answers : (s : Outcome) → (work f (state_in t) a).end ≡ done s → Left s w st x → answered ≡ stepped t r a

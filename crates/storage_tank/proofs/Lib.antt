@@ -6,3 +6,4 @@ pub mod EightSplit
 pub mod TopLayer
 pub mod Calls
 pub mod Kept
+pub mod Fitted

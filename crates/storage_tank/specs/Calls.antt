@@ -8,11 +8,13 @@ use Rattle.working_order.specs.Order.{max_heaters}
 use Rattle.tank_model.specs.declared.Heater.{Heater}
 use Rattle.tank_model.specs.declared.TankDesign.{TankDesign}
 use Rattle.tank_model.specs.declared.Step.{Step}
+use Rattle.tank_model.specs.declared.HeaterLine.{HeaterLine}
 use Rattle.tank_model.specs.Fixed.{no_heater, zero_heater, fixed_of}
 use Rattle.tank_model.specs.Checks.{make_refusal}
 use Rattle.tank_model.specs.Run.{End, refused, done}
 use Rattle.tank_model.specs.Work.{Outcome, recoverable, work}
 use Rattle.tank_model.specs.History.{Call, step}
+use Rattle.step_work.specs.declared.work.StepFigures.{StepFigures}
 use Rattle.storage_tank.specs.declared.StorageTank.{StorageTank}
 use Rattle.storage_tank.specs.declared.Report.{Report}
 use Rattle.storage_tank.specs.declared.Made.{Made}
@@ -80,6 +82,10 @@ stepped_tank t s = record {
   fitted = t.fitted;
   flags = s.heated.flags;
 }
+
+-- the report of what an accepted step came to and its heaters' lines
+abbrev pub report_by : StepFigures → List HeaterLine → Report
+report_by w lines = record { energy = w.totals.energy; used = w.totals.used; average = w.average; recoverable = w.recoverable; lines = lines }
 
 abbrev pub report_of : Outcome → Report
 report_of s = record {

@@ -1,7 +1,8 @@
 -- States demand 3: what the arguments of make and of a list of calls say of what was answered. It cites the history that 01 works on a tank of its own
 -- (tank_model/specs/HistoryDemand.antt), and neither make's nor step's answer; `Promises`, at the end, says what the calls promise. proofs/Demand.antt proves
 -- it of every list.
-use Rattle.std.specs.Prelude.{◌≡◌, ◌↔◌, List, [], ◌∷◌, false, cond, ℕ, zero, suc, ◌≤◌, ◌<◌, T, length, get_or, replicate, None, Ok, Float}
+use Rattle.std.specs.Prelude.{◌≡◌, ◌↔◌, List, [], ◌∷◌, length, get_or, replicate}
+use Rattle.std.specs.Prelude.{false, cond, T, ℕ, zero, suc, ◌≤◌, ◌<◌, None, Ok, Float}
 use Rattle.refusals.specs.Refusals.{number_in}
 use Rattle.numeric.specs.Double.{zero_f}
 use Rattle.mixing.specs.Limits.{max_layers}

@@ -25,13 +25,7 @@ pub fn noted_step(t: StorageTank, report: Report, a: Step) -> NotedStep
         Ok(w) => Stepped {
             outcome: Ok(()),
             tank,
-            report: Report {
-                energy: w.totals.energy,
-                used: w.totals.used,
-                average: w.average,
-                recoverable: w.recoverable,
-                lines: notes.lines,
-            },
+            report: Report::of(w, notes.lines),
         },
         Err(refusal) => Stepped {
             outcome: Err(refusal),

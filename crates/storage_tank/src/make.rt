@@ -1,5 +1,6 @@
 // The call make: `StorageTank::new`.
-ghost use Rattle.std.specs.Prelude.{◌≡◌, ◌++◌, ◌≤◌, drop, replicate};
+// Kept: counts of at most 32 layers and 8 heaters asked: they fill arrays of the most that 01 prescribes, as nothing is on a heap. Checks 1 and 2 come first.
+ghost use Rattle.std.specs.Prelude.{◌≡◌, ◌++◌, ◌≤◌, drop, length, replicate};
 ghost use Rattle.numeric.specs.Double.{zero_f};
 ghost use Rattle.mixing.specs.Limits.{max_layers};
 ghost use Rattle.working_order.specs.Order.{max_heaters};
@@ -20,17 +21,18 @@ fn initial_temps(n: usize, x: f64) -> [f64; MAX_LAYERS]
     temps
 }
 
-// The first n heaters as given, and zeros past them.
-fn fitted_heaters(n: usize, fitted: &[Heater; MAX_HEATERS]) -> [Heater; MAX_HEATERS]
-    requires { n ≤ max_heaters }
-    ensures { result ≡ fitted_heaters n fitted.now }
+// The heaters as given, and zeros past them.
+fn fitted_heaters(fitted: &[Heater]) -> [Heater; MAX_HEATERS]
+    requires { length fitted.now ≤ max_heaters }
+    ensures { result ≡ fitted_heaters (length fitted.now) fitted.now }
 {
     let mut heaters = [Heater::default(); MAX_HEATERS];
-    heaters[..n].copy_from_slice(&fitted[..n]);
+    heaters[..fitted.len()].copy_from_slice(fitted);
     heaters
 }
 
 // No layers, no heaters and zeros.
+// Kept: beside the derived default, of which it says once for its callers that all of it is zeros.
 pub fn zero_tank() -> StorageTank
     ensures { result ≡ zero_tank }
 {
@@ -38,9 +40,9 @@ pub fn zero_tank() -> StorageTank
 }
 
 // The layers at the initial temperature, and the flags off.
-fn new_tank(m: &TankDesign) -> StorageTank
-    requires { (m.now.layers ≤ max_layers) × (m.now.heaters ≤ max_heaters) }
-    ensures { result ≡ new_tank m.now }
+fn new_tank(m: TankDesign) -> StorageTank
+    requires { (m.layers ≤ max_layers) × (m.heaters ≤ max_heaters) }
+    ensures { result ≡ new_tank m }
 {
     StorageTank {
         layers: m.layers,
@@ -52,7 +54,7 @@ fn new_tank(m: &TankDesign) -> StorageTank
         timestep: m.timestep,
         temps: initial_temps(m.layers, m.initial),
         heaters: m.heaters,
-        fitted: fitted_heaters(m.heaters, &m.fitted),
+        fitted: fitted_heaters(&m.fitted[..m.heaters]),
         flags: [false; MAX_HEATERS],
     }
 }
@@ -64,7 +66,7 @@ impl StorageTank {
     {
         let outcome = tank_refusals::calls::make_refusal(&m);
         let tank = match outcome {
-            Ok(_) => new_tank(&m),
+            Ok(_) => new_tank(m),
             Err(_) => zero_tank(),
         };
         Made { outcome, tank }

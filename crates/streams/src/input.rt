@@ -19,6 +19,7 @@ pub fn fill(
     let mut input = rt.reader();
     let mut tries = Tries::all();
     let mut count = 0;
+    // Kept: a `while`, which counts no index: it goes on until the buffer is full, the input ends, or a read fails for good.
     while count < buf.len() {
         match input.read(&mut buf[count..]) {
             Ok(0) => break,

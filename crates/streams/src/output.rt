@@ -17,6 +17,7 @@ pub fn send(
 {
     let mut tries = Tries::all();
     let mut count = 0;
+    // Kept: a `while`, which counts no index: it goes on until all of the text is taken, or a write fails for good.
     while count < text.len() {
         match rt.write_some(&text[count..]) {
             Ok(0) => {
@@ -39,7 +40,7 @@ pub fn send(
 }
 
 // Whether standard output took all of text; if not, standard error says why.
-// Kept: a plain bool, as it was promised; as a Result it would be `send` again.
+// Kept: a bool, which a public function was promised to answer; with a Result in its place it would be `send` a second time, which is no plainer.
 pub fn put(rt: &(impl Print + Eprint + Clock), program: &[u8], text: &[u8]) -> bool {
     send(rt, program, text).is_ok()
 }

@@ -8,8 +8,9 @@ use native.Mathlib.Omega.{arith}
 use lib.Dec.{T}
 use lib.ListN.{length, get_or, take}
 use lib.Seq.{take_at}
+use Rattle.std.proofs.lemmas.List.{get_or-take, length-take-le}
 use lib.Ieee.{le}
-use Rattle.numeric.specs.Tabulate.{tabulate, length_tabulate, at_tabulate}
+use Rattle.numeric.specs.Tabulate.{tabulate, tabulate_same, length_tabulate, at_tabulate}
 use Rattle.working_order.specs.Order.{indices, insert, insertion_sort, comes_before, rising_order}
 use Rattle.working_order.proofs.Entries.{rising_length}
 use Rattle.tank_model.specs.declared.Heater.{Heater}
@@ -112,6 +113,14 @@ pub placed_at : (n : ℕ) (fitted : List Heater) (h : ℕ) → h < n → get_or 
 unfolding placed_heaters
 placed_at n fitted h l = at_tabulate (λ (k : ℕ). placed (get_or fitted k no_heater)) n h not_placed l
 
+-- the first n heaters of an array are all those of the slice that is cut from it
+pub taken_heaters : (n : ℕ) (fitted : List Heater) → n ≤ length fitted → placed_heaters (length (take n fitted)) (take n fitted) ≡ placed_heaters n fitted
+unfolding placed_heaters
+taken_heaters n fitted few =
+    rw (length-take-le n fitted few)
+    (tabulate_same (λ (h : ℕ). placed (get_or (take n fitted) h no_heater)) (λ (h : ℕ). placed (get_or fitted h no_heater)) n 0
+    (λ h l u. ap placed (get_or-take n fitted h no_heater (omega arith))))
+
 -- those that make was given
 pub heater_is : (m : TankDesign) (h : ℕ) → h < m.heaters → heater_of (fixed_of m) h ≡ placed (get_or m.fitted h no_heater)
 heater_is m h l = placed_at m.heaters m.fitted h l
@@ -159,3 +168,9 @@ first_in_order n fitted order f o e =
     let many : length f.heaters ≡ n = ap (λ (hs : List Placed). length hs) e ∙ many_placed n fitted in
     let long = rising_length (λ (h : ℕ). (heater_of f h).position) (length f.heaters) ∙ many in
     rw (o f e) (take_at (working_order f) _ n long)
+
+-- the same, where the order is that of the slice of the first n heaters
+pub first_in_taken : (n : ℕ) (fitted : List Heater) (order : List ℕ) (f : Fixed) → n ≤ length fitted → InOrder (length (take n fitted)) (take n fitted) order
+    → f.heaters ≡ placed_heaters n fitted → take n order ≡ working_order f
+first_in_taken n fitted order f few o e =
+    rw (length-take-le n fitted few) at (first_in_order (length (take n fitted)) (take n fitted) order f o (e ∙ sym (taken_heaters n fitted few)))

@@ -12,7 +12,6 @@ use Rattle.draw_off.specs.declared.cold.Feed.{Feed}
 use Rattle.set_points.specs.declared.SetPoints.{SetPoints}
 use Rattle.set_points.specs.declared.SetPoints.TheVariants.{Neither, Lower, Upper, Both}
 use Rattle.tank_model.specs.declared.TankDesign.{TankDesign}
-use Rattle.tank_model.specs.declared.Setting.{Setting}
 use Rattle.tank_model.specs.declared.Step.{Step}
 use Rattle.tank_model.specs.Fixed.{no_heater}
 use Rattle.tank_model.specs.Members.{All, Some, Distinct, Chain}
@@ -76,12 +75,9 @@ pub record InWorkingOrder (m : TankDesign) (hs : List ℕ) : Type 0 where
 abbrev pub feed_of : Step → Feed
 feed_of a = record { temperature = a.feed }
 
-abbrev pub no_settings : Setting
-no_settings = record { points = Neither }
-
 -- the set points of the heater given as h, and the volume of the event i
 abbrev pub set_points_of : Step → ℕ → SetPoints
-set_points_of a h = (get_or a.settings h no_settings).points
+set_points_of a h = get_or a.settings h Neither
 
 abbrev pub event_volume : Step → ℕ → Float
 event_volume a i = get_or a.volumes i nan

@@ -13,7 +13,6 @@ use Rattle.draw_events.specs.Lent.{max_events}
 use Rattle.set_points.specs.declared.SetPoints.{SetPoints}
 use Rattle.set_points.specs.declared.SetPoints.TheVariants.{Neither, Lower, Upper, Both}
 use Rattle.working_order.specs.Order.{max_heaters}
-use Rattle.tank_model.specs.declared.Setting.{Setting}
 use Rattle.tank_model.specs.declared.Step.{Step}
 use Rattle.tank_model.specs.Fixed.{Placed, not_placed, Fixed, State}
 use Rattle.tank_model.specs.FirstRefusal.{first_refusal, first_among}
@@ -68,12 +67,9 @@ tank_checks f temps =
 
 -- ---- the checks of a step's arguments
 
-abbrev pub no_setting : Setting
-no_setting = record { points = Neither }
-
 -- the set points of the heater given as h
 abbrev pub points_of : Step → ℕ → SetPoints
-points_of a h = (get_or a.settings h no_setting).points
+points_of a h = get_or a.settings h Neither
 
 -- of a tank of n heaters
 abbrev pub counts_check : ℕ → ℕ → ℕ → ℕ
@@ -100,8 +96,8 @@ points_check (Lower l) = cond (finite l) 8 12
 points_check (Upper u) = unless (finite u) 12
 points_check (Both l u) = cond (finite l && finite u) (unless (not (lt u l)) 13) 12
 
-abbrev pub settings_check : ℕ → List Setting → ℕ
-settings_check n settings = first_among (λ (h : ℕ). points_check (get_or settings h no_setting).points) n
+abbrev pub settings_check : ℕ → List SetPoints → ℕ
+settings_check n settings = first_among (λ (h : ℕ). points_check (get_or settings h Neither)) n
 
 -- 6 and 7
 abbrev pub argument_checks : Fixed → Step → List ℕ

@@ -2,7 +2,8 @@
 -- what it begins on, which events and turns there are, on what each begins, what each is and hands on, the average, and what ended the step with which
 -- number. It is a statement about a `Work` and takes only the records of Work.antt and the sequence of Run.antt: it cites nothing that works, chains or
 -- checks a step.
-use Rattle.std.specs.Prelude.{◌≡◌, ◌⊎◌, ◌↔◌, List, [], ◌∷◌, Bool, true, false, ℕ, ◌+◌, ◌-◌, ◌<◌, ◌≤◌, T, length, get_or, set, replicate, Float}
+use Rattle.std.specs.Prelude.{◌≡◌, ◌⊎◌, ◌↔◌, List, [], ◌∷◌, length, get_or, set, replicate}
+use Rattle.std.specs.Prelude.{Bool, true, false, T, ℕ, ◌+◌, ◌-◌, ◌<◌, ◌≤◌, Float}
 use Rattle.std.specs.Float.{nan}
 use Rattle.std.specs.Float.Ieee.{lt, le}
 use Rattle.numeric.specs.Double.{◌⊕◌, ◌⊖◌, ◌⊛◌, ◌⊘◌, zero_f, three_quarters}

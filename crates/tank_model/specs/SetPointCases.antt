@@ -33,7 +33,7 @@ tank positions = record {
 }
 
 abbrev asks : Float → ℕ → List SetPoints → Step
-asks feed n points = record { feed = feed; events = 0; volumes = []; entries = n; settings = map (λ p. record { points = p }) points }
+asks feed n points = record { feed = feed; events = 0; volumes = []; entries = n; settings = points }
 
 -- what a step is refused for by the checks of its arguments
 abbrev refusal : List ℕ → Float → List SetPoints → ℕ

@@ -1,9 +1,10 @@
 // What a tank is made from, what a step asks of it, and what it reports of a heater.
 // The work of a step, and of a list of calls, is defined over these (`specs/`).
-// A count may be any number; what is past it in an array is not looked at. Kept: nothing is on a heap, so counts stand beside arrays.
+// A count may be any number, which check 2 or 6 refuses; what is past it in an array is not looked at.
+// Kept: in a record a count stands beside its array: nothing is on a heap, and 01 prescribes arrays of the most there can be.
 #![tactic(auto)]
 
-ghost use Rattle.std.specs.Prelude.{◌≡◌, ℕ, ◌≤◌, ◌<◌, get_or};
+ghost use Rattle.std.specs.Prelude.{◌≡◌, ℕ, ◌≤◌, ◌<◌, get_or, length};
 ghost use Rattle.mixing.specs.Limits.{max_layers};
 ghost use Rattle.working_order.specs.Order.{max_heaters, position_in};
 ghost use Rattle.tank_model.specs.Fixed.{placed, no_heater, immersed, fixed_of};
@@ -32,6 +33,7 @@ impl Heater {
     }
 
     // The heater with the layers that a step finds for it in a tank of n.
+    // Kept: `n ≤ max_layers` asked, as finding a layer asks that doubles can count the layers; a tank that is worked has 32 at most, by 01.
     pub fn immersed(self, n: usize) -> Immersion
         requires { n ≤ max_layers }
         ensures finds { result ≡ immersed n (placed self) }
@@ -45,29 +47,35 @@ impl Heater {
     }
 }
 
-// Kept: a loop, since `std::array::from_fn` was tried, and its contract does not tell what its closure finds behind a reference.
-fn positions(fitted: &[Heater; MAX_HEATERS]) -> [f64; MAX_HEATERS]
-    ensures { (h : ℕ) → h < max_heaters → position_in result h ≡ (get_or fitted.now h no_heater).position }
+// The position of the heater h, and zero past the last.
+fn position_at(fitted: &[Heater], h: usize) -> f64
+    ensures { h < length fitted.now → result ≡ (get_or fitted.now h no_heater).position }
 {
-    let mut positions = [0.0; MAX_HEATERS];
-    for (h, x) in fitted.iter().enumerate() {
-        positions[h] = x.position;
+    match fitted.get(h) {
+        Some(x) => x.position,
+        None => 0.0,
     }
-    positions
 }
 
-// The places of the first n heaters, in the order in which a step works them, and zeros past them.
-pub fn order_of_work(n: usize, fitted: &[Heater; MAX_HEATERS]) -> [usize; MAX_HEATERS]
-    requires { n ≤ max_heaters }
-    ensures order { InOrder n fitted.now result }
-    ensures below { (k : ℕ) → k < n → get_or result k 0 < n }
+fn positions(fitted: &[Heater]) -> [f64; MAX_HEATERS]
+    ensures { (h : ℕ) → h < length fitted.now → h < max_heaters → position_in result h ≡ (get_or fitted.now h no_heater).position }
 {
-    working_order::working_order(n, &positions(fitted))
+    std::array::from_fn(|h| position_at(fitted, h))
+}
+
+// The places of the heaters, in the order in which a step works them, and zeros past them.
+// Kept: `length ≤ max_heaters` asked, and `below` a clause of its own: the order is an array of eight places, and each entry is taken out to index one.
+pub fn order_of_work(fitted: &[Heater]) -> [usize; MAX_HEATERS]
+    requires { length fitted.now ≤ max_heaters }
+    ensures order { InOrder (length fitted.now) fitted.now result }
+    ensures below { (k : ℕ) → k < length fitted.now → get_or result k 0 < length fitted.now }
+{
+    working_order::working_order(&positions(fitted)[..fitted.len()])
 }
 
 // What a tank is made from. Volume is in litres, `standby` in kWh per 24 h, the density `rho` in kg per litre, the specific heat `cp` in kWh/kg.K,
 // the step length in hours.
-#[derive(Clone, Copy)]
+#[derive(Clone, Copy, Default)]
 pub struct TankDesign {
     pub layers: usize,
     pub volume: f64,
@@ -82,7 +90,8 @@ pub struct TankDesign {
 }
 
 impl TankDesign {
-    // The numbers of its cylinder. Kept: 01 prescribes these fields in the record itself, so they are put together here, and for a tank in `storage_tank`.
+    // The numbers of its cylinder.
+    // Kept: no cylinder nested in the design: 01's tank has these fields itself, and make would take a nested one apart to copy them there.
     pub fn cylinder(&self) -> Cylinder
         ensures { result ≡ (fixed_of self.now).cylinder }
     {
@@ -98,20 +107,14 @@ impl TankDesign {
     }
 }
 
-// A step's set points for one heater.
-#[derive(Clone, Copy)]
-pub struct Setting {
-    pub points: SetPoints,
-}
-
-// A step: the feed temperature, the volumes of its draw events (litres), and one setting for each heater, as given.
+// A step: the feed temperature, the volumes of its draw events (litres), and the set points of each heater, as given.
 #[derive(Clone, Copy)]
 pub struct Step {
     pub feed: f64,
     pub events: usize,
     pub volumes: [f64; MAX_EVENTS],
     pub entries: usize,
-    pub settings: [Setting; MAX_HEATERS],
+    pub settings: [SetPoints; MAX_HEATERS],
 }
 
 // What a step reports of a heater: its flag, its adjusted input, energy supplied and losses (kWh), and the rounds of its mixing.
@@ -133,6 +136,7 @@ pub struct TurnCourse {
 }
 
 // What a step's turns note as they go, also where the step is refused: each heater's line and course in its place, as given, and how many had their turn.
+// Kept: `lines` and `courses` apart: 01's report has the lines as an array of their own, into which they go as they stand.
 #[derive(Clone, Copy, Default)]
 pub struct TurnNotes {
     pub lines: [HeaterLine; MAX_HEATERS],

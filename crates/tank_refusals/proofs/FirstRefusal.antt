@@ -7,9 +7,11 @@ use Prim.Native.Nat.{ℕ, ◌+◌, ◌<◌, ◌≤◌}
 use native.Mathlib.Omega.{arith}
 use lib.Dec.{leb, eqb, leb→le, lit<}
 use lib.ListN.{length, get_or, take}
-use Rattle.std.proofs.lemmas.List.{get_or-take, length-take-le}
+use Rattle.std.proofs.lemmas.List.{get_or-take, get_or_default, length-take-le}
 use Rattle.numeric.specs.Tabulate.{tabulate_same}
+use lib.Ieee.{Float}
 use lib.Ieee.Scale.{finite}
+use Rattle.std.specs.Float.{nan}
 use lib.Ieee.Fits.{and_l, and_r}
 use Rattle.refusals.specs.declared.Refusal.{Refusal}
 use Rattle.refusals.specs.Refusals.{number_of, number_in}
@@ -23,8 +25,8 @@ use Rattle.working_order.specs.Order.{max_heaters}
 use Rattle.tank_model.specs.declared.Heater.{Heater}
 use Rattle.tank_model.specs.declared.Step.{Step}
 use Rattle.tank_model.specs.Fixed.{placed, no_heater, not_placed, placed_heaters, Fixed, State, fixed_by}
-use Rattle.tank_model.specs.FirstRefusal.{first_refusal, first_among, decides, goes_on, last_decides, Searched, searched_turn, searched_stop, searched_end, each_passes, first_list, second_list, both_pass}
-use Rattle.tank_model.specs.Checks.{unless, not_negative, heaters_check, heater_check, places_check, counts_check, tank_checks, step_checks, step_refusal}
+use Rattle.tank_model.specs.FirstRefusal.{first_refusal, first_among, decides, goes_on, last_decides, Searched, searched_turn, searched_stop, each_passes, first_list, second_list, both_pass}
+use Rattle.tank_model.specs.Checks.{unless, not_negative, heaters_check, heater_check, places_check, counts_check, volume_check, volumes_check, tank_checks, step_checks, step_refusal}
 use Rattle.tank_model.proofs.Order.{many_placed, placed_at}
 use Rattle.tank_model.proofs.Passes.{unless_passes, tank_passes}
 
@@ -49,30 +51,30 @@ last n k e = last_decides k n e
 
 pub ruleset one_by_one = (refused, passed, last)
 
--- ---- a check of the first n items of a list, one after the other: `few` says that there are so many
+-- ---- a check of each item of a list, one after the other
 
-module _ {A : Type 0} (check : A → ℕ) (d : A) (xs : List A) (n : ℕ) (few : n ≤ length xs) where
+module _ {A : Type 0} (check : A → ℕ) (d : A) (xs : List A) where
   -- what the check of the item i answers
   abbrev pub number_at : ℕ → ℕ
   number_at i = check (get_or xs i d)
 
-  taken : length (take n xs) ≡ n
-  taken = length-take-le n xs few
+  -- of the item x, which stands at i, by whatever stands past the list
+  item_number : (i : ℕ) (x : A) (k : ℕ) → i < length xs → x ≡ get_or xs i x → k ≡ check x → k ≡ number_at i
+  item_number i x k l e h = h ∙ ap check (e ∙ get_or_default xs i x d l)
 
   -- the item i refuses, before which all pass
-  pub item_refuses : (i : ℕ) (r : Refusal) → i < length (take n xs) → number_of r ≡ check (get_or (take n xs) i d) → Searched number_at n i
-      → number_of r ≡ first_among number_at n
-  item_refuses i r l e s =
-      let l' : i < n = omega (arith, taken) in
-      searched_stop number_at n i (number_of r) l' (rw get_or-take at e) (number-not_0 r) s
+  pub item_refuses : (i : ℕ) (x : A) (r : Refusal) → i < length xs → x ≡ get_or xs i x → number_of r ≡ check x → Searched number_at (length xs) i
+      → number_of r ≡ first_among number_at (length xs)
+  item_refuses i x r l e h s = searched_stop number_at (length xs) i (number_of r) l (item_number i x (number_of r) l e h) (number-not_0 r) s
 
-  pub item_passes : (i : ℕ) → i < length (take n xs) → 0 ≡ check (get_or (take n xs) i d) → Searched number_at n i → Searched number_at n (i + 1)
-  item_passes i l e s =
-      let l' : i < n = omega (arith, taken) in
-      searched_turn number_at n i 0 l' (rw get_or-take at e) refl s
+  pub item_passes : (i : ℕ) (x : A) → i < length xs → x ≡ get_or xs i x → 0 ≡ check x → Searched number_at (length xs) i → Searched number_at (length xs) (i + 1)
+  item_passes i x l e h s = searched_turn number_at (length xs) i 0 l (item_number i x 0 l e h) refl s
 
-  pub items_pass : (i : ℕ) → length (take n xs) ≤ i → Searched number_at n i → 0 ≡ first_among number_at n
-  items_pass i l s = searched_end number_at n i (omega (arith, taken)) s
+  -- the first n items of a list
+  pub first_taken : (n : ℕ) → n ≤ length xs → first_among (λ (i : ℕ). check (get_or (take n xs) i d)) (length (take n xs)) ≡ first_among number_at n
+  first_taken n few =
+      rw (length-take-le n xs few)
+      (ap first_refusal (tabulate_same (λ (i : ℕ). check (get_or (take n xs) i d)) number_at n 0 (λ i h l. ap check (get_or-take n xs i d (omega arith)))))
 
 -- ---- heaters in an array
 
@@ -85,6 +87,10 @@ places_are n fitted =
     rw (many_placed n fitted)
     (ap first_refusal (tabulate_same (check_at fitted) (λ (h : ℕ). heater_check (get_or (placed_heaters n fitted) h not_placed)) n 0
     (λ h l u. ap heater_check (sym (placed_at n fitted h (omega arith))))))
+
+-- the first n volumes of an array are all those of the slice that is cut from it
+pub taken_volumes : (n : ℕ) (volumes : List Float) → n ≤ length volumes → volumes_check (length (take n volumes)) (take n volumes) ≡ volumes_check n volumes
+taken_volumes n volumes few = first_taken volume_check nan volumes n few
 
 pub few_heaters : (n k : ℕ) → k ≡ heaters_check n → k ≡ 0 → n ≤ max_heaters
 few_heaters n k e z = leb→le n max_heaters (unless_passes (leb n max_heaters) 2 (lit< tt) (sym e ∙ z))

@@ -1,5 +1,6 @@
 // What make and a step are refused for before they work: the first check that does not pass.
 // A check more is a line more in the function that goes through them.
+// Kept: a count beside its array in a parameter: a tank and a step may hold any count, which check 2 or 6 refuses, and no slice can be cut before it.
 ghost use Rattle.std.specs.Prelude.{◌≡◌, ◌&&◌, ◌≤◌, leb, OnOk};
 ghost use Rattle.refusals.specs.Refusals.{number_in};
 ghost use Rattle.mixing.specs.Limits.{max_layers};
@@ -24,15 +25,15 @@ fn tank_refusal(
     c: Cylinder,
     n: usize,
     fitted: &[Heater; MAX_HEATERS],
-    temps: bool,
+    finite: bool,
 ) -> Result<(), Refusal>
-    ensures { number_in result ≡ first_refusal (tank_checks (fixed_by c (placed_heaters n fitted.now)) temps) }
+    ensures { number_in result ≡ first_refusal (tank_checks (fixed_by c (placed_heaters n fitted.now)) finite) }
 {
     checks::layers_check(c)?;
     checks::heaters_check(n, 0)?;
     checks::numbers_check(c)?;
-    checks::temperatures_check(c, temps)?;
-    checks::places_check(n, fitted)
+    checks::temperatures_check(c, finite)?;
+    checks::places_check(&fitted[..n])
 }
 
 // 6, 7, and then the set points, of any tank of n heaters.
@@ -42,7 +43,7 @@ fn arguments_refusal(n: usize, a: &Step) -> Result<(), Refusal>
     ensures { FirstOfStep n a.now (number_in result) }
 {
     checks::counts_check(n, a.events, a.entries)?;
-    checks::draws_check(a.feed, a.events, &a.volumes)?;
+    checks::draws_check(a.feed, &a.volumes[..a.events])?;
     checks::settings_check(a.entries, &a.settings)
 }
 
@@ -50,8 +51,8 @@ fn arguments_refusal(n: usize, a: &Step) -> Result<(), Refusal>
 pub fn make_refusal(m: &TankDesign) -> Result<(), Refusal>
     ensures { number_in result ≡ make_refusal (fixed_of m.now) m.now.initial }
 {
-    let temps = numeric::compare::is_finite(m.initial);
-    tank_refusal(m.cylinder(), m.heaters, &m.fitted, temps)
+    let finite = numeric::compare::is_finite(m.initial);
+    tank_refusal(m.cylinder(), m.heaters, &m.fitted, finite)
 }
 
 // The layers are no more than there can be, and each is finite.

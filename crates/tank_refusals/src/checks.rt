@@ -1,11 +1,11 @@
 // The checks of make and of a step, 1 to 7, and 12, 8 and 13 of set points, one function each, by its definition's name: it refuses by its number, or passes.
 // A check of several places refuses for the first that does not pass.
-ghost use Rattle.std.specs.Prelude.{◌≡◌, ◌&&◌, ◌+◌, ◌≤◌};
-ghost use Rattle.refusals.specs.Refusals.{number_of, number_in};
-ghost use Rattle.draw_events.specs.Lent.{max_events};
+ghost use Rattle.std.specs.Prelude.{◌≡◌, ◌&&◌, ℕ, ◌+◌, ◌≤◌, get_or, length};
+ghost use Rattle.refusals.specs.Refusals.{number_in};
 ghost use Rattle.working_order.specs.Order.{max_heaters};
 ghost use Rattle.tank_model.specs.Fixed.{placed, placed_heaters};
-ghost use Rattle.tank_model.specs.Checks.{unless, not_negative, is_position};
+ghost use Rattle.tank_model.specs.FirstRefusal.{first_among};
+ghost use Rattle.tank_model.specs.Checks.{not_negative, is_position};
 ghost use Rattle.tank_model.specs.Checks.{layers_check, heaters_check, numbers_check, temperatures_check, heater_check, places_check};
 ghost use Rattle.tank_model.specs.Checks.{counts_check, feed_check, volume_check, volumes_check, draws_check, points_check, settings_check};
 
@@ -13,15 +13,24 @@ use cylinder::Cylinder;
 use draw_events::event::MAX_EVENTS;
 use mixing::limits::MAX_LAYERS;
 use numeric::compare::{is_finite, is_finite_above_zero};
-use refusals::Refusal;
+use refusals::{Refusal, unless};
 use set_points::SetPoints;
-use tank_model::{Heater, Setting};
+use tank_model::Heater;
 use working_order::MAX_HEATERS;
 
-fn unless(passes: bool, refusal: Refusal) -> Result<(), Refusal>
-    ensures { number_in result ≡ unless passes (number_of refusal) }
+// Of each item in turn: refused as the first of them that is.
+fn check_each<T: Copy, C: Fn(T) -> Result<(), Refusal>>(
+    items: &[T],
+    check: C,
+) -> Result<(), Refusal>
+    requires { C.IsAlwaysCallable check }
+    ensures { (number : T → ℕ) (d : T) → ((x : T) (r : _) → C.post check x r → number_in r ≡ number x)
+        → number_in result ≡ first_among (λ i. number (get_or items.now i d)) (length items.now) }
 {
-    if passes { Ok(()) } else { Err(refusal) }
+    for x in items {
+        check(*x)?;
+    }
+    Ok(())
 }
 
 // Finite and not below zero: -0.0 is a number like 0.0.
@@ -49,11 +58,10 @@ pub fn layers_check(c: Cylinder) -> Result<(), Refusal>
 
 // 2: of n heaters, and so many more that are to come.
 pub fn heaters_check(n: usize, more: usize) -> Result<(), Refusal>
-    requires { more ≤ max_heaters }
     ensures { number_in result ≡ heaters_check (n + more) }
 {
     unless(
-        n <= MAX_HEATERS && n + more <= MAX_HEATERS,
+        n <= MAX_HEATERS && more <= MAX_HEATERS - n,
         Refusal::HeaterCount,
     )
 }
@@ -72,11 +80,11 @@ pub fn numbers_check(c: Cylinder) -> Result<(), Refusal>
 }
 
 // 4, where the initial temperature, or each stored layer, is finite or not.
-pub fn temperatures_check(c: Cylinder, temps: bool) -> Result<(), Refusal>
-    ensures { number_in result ≡ temperatures_check c temps }
+pub fn temperatures_check(c: Cylinder, finite: bool) -> Result<(), Refusal>
+    ensures { number_in result ≡ temperatures_check c finite }
 {
     unless(
-        is_not_negative(c.standby) && is_finite(c.ambient) && temps,
+        is_not_negative(c.standby) && is_finite(c.ambient) && finite,
         Refusal::Temperature,
     )
 }
@@ -91,15 +99,11 @@ pub fn heater_check(x: Heater) -> Result<(), Refusal>
     )
 }
 
-// 5, of the first n heaters.
-pub fn places_check(n: usize, fitted: &[Heater; MAX_HEATERS]) -> Result<(), Refusal>
-    requires { n ≤ max_heaters }
-    ensures { number_in result ≡ places_check (placed_heaters n fitted.now) }
+// 5, of each heater.
+pub fn places_check(fitted: &[Heater]) -> Result<(), Refusal>
+    ensures { number_in result ≡ places_check (placed_heaters (length fitted.now) fitted.now) }
 {
-    for x in &fitted[..n] {
-        heater_check(*x)?;
-    }
-    Ok(())
+    check_each(fitted, heater_check)
 }
 
 // ---- of a step's arguments
@@ -125,25 +129,20 @@ pub fn volume_check(v: f64) -> Result<(), Refusal>
     unless(is_not_negative(v), Refusal::Draw)
 }
 
-// 7, of the first n volumes.
-fn volumes_check(n: usize, volumes: &[f64; MAX_EVENTS]) -> Result<(), Refusal>
-    requires { n ≤ max_events }
-    ensures { number_in result ≡ volumes_check n volumes.now }
+// 7, of each volume.
+fn volumes_check(volumes: &[f64]) -> Result<(), Refusal>
+    ensures { number_in result ≡ volumes_check (length volumes.now) volumes.now }
 {
-    for v in &volumes[..n] {
-        volume_check(*v)?;
-    }
-    Ok(())
+    check_each(volumes, volume_check)
 }
 
 // 7.
 #[tactic(auto, using(crate::proofs::FirstRefusal::one_by_one))]
-pub fn draws_check(feed: f64, n: usize, volumes: &[f64; MAX_EVENTS]) -> Result<(), Refusal>
-    requires { n ≤ max_events }
-    ensures { number_in result ≡ draws_check feed n volumes.now }
+pub fn draws_check(feed: f64, volumes: &[f64]) -> Result<(), Refusal>
+    ensures { number_in result ≡ draws_check feed (length volumes.now) volumes.now }
 {
     feed_check(feed)?;
-    volumes_check(n, volumes)
+    volumes_check(volumes)
 }
 
 // Of one heater's set points: 12 where a present one is not finite; else 8 where the lower one comes alone, and 13 where it is greater than the upper.
@@ -166,12 +165,10 @@ pub fn points_check(p: SetPoints) -> Result<(), Refusal>
 }
 
 // 12, 8 or 13, of the first n heaters' set points: the first faulty heater, as given, decides.
-pub fn settings_check(n: usize, settings: &[Setting; MAX_HEATERS]) -> Result<(), Refusal>
+// Kept: tried with a slice, which its caller cuts: no proof closed there, where the volumes are cut too, and the length of `settings` is not known.
+pub fn settings_check(n: usize, settings: &[SetPoints; MAX_HEATERS]) -> Result<(), Refusal>
     requires { n ≤ max_heaters }
     ensures { number_in result ≡ settings_check n settings.now }
 {
-    for x in &settings[..n] {
-        points_check(x.points)?;
-    }
-    Ok(())
+    check_each(&settings[..n], points_check)
 }

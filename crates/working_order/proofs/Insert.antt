@@ -1,10 +1,9 @@
 -- Proves one insertion on an array, place by place (01, Tank): what the loop over the places cites.
-use mathlib.Core.Path.{◌≡◌, refl, ap, sym, ◌∙◌}
+use mathlib.Core.Path.{◌≡◌, ap, sym, ◌∙◌}
 use mathlib.Core.Bool.{Bool, true, false}
 use mathlib.Core.List.{List, [], ◌∷◌, ◌++◌, append_assoc}
 use Prim.Native.Nat.{ℕ, ◌+◌, ◌≤◌, ◌<◌}
 use native.Mathlib.Numerals.{add-one}
-use native.Mathlib.Nat.{le_refl}
 use native.Mathlib.Omega.{arith}
 use lib.ListN.{length, get_or, take, drop, set, length-set, take-append-drop}
 use lib.Seq.{slice, slice_empty, slice-cons, length-take-le, take-suc-set, take-set-lt, drop-set-lt, drop-append-le, set_split, get_or-set_other}
@@ -24,9 +23,6 @@ module _ (before : ℕ → ℕ → Bool) (n x : ℕ) where
     pub long : length order ≡ max_heaters
     pub numbers : NumbersFrom (j + 1) n order
     pub same : take j order ++ (insert before x (slice (j + 1) n order) ++ drop n order) ≡ with_heater before n x first
-
-  pub inserting_start : (order : List ℕ) → x < n → length order ≡ max_heaters → NumbersFrom (x + 1) n order → Inserting order x order
-  inserting_start order h l b = record { low = le_refl x; high = h; long = l; numbers = b; same = refl }
 
   module _ (first : List ℕ) (j : ℕ) (order : List ℕ) (limit : n ≤ max_heaters) (r : Inserting first j order) where
     next : j + 1 < n → slice (j + 1) n order ≡ get_or order (j + 1) 0 ∷ slice (j + 1 + 1) n order

@@ -1,4 +1,4 @@
--- `running::heat_at` meets its contract (01, Mix). The loop's invariant: adding the terms left gives the whole sum.
+-- `heat_at` meets its contract (01, Mix). The loop's invariant: adding the terms left gives the whole sum.
 use native.Mathlib.Omega.{arith}
 use Rattle.numeric.specs.Iterate.{span_start, span_next, span_end}
 use Rattle.group_sums.proofs.heat_at.Goals as goal

@@ -1,4 +1,4 @@
--- `running::heat_at` meets its contract (01, Mix). The loop's invariant: adding the terms left gives the whole sum.
+-- `heat_at` meets its contract (01, Mix). The loop's invariant: adding the terms left gives the whole sum.
 use Prim.Native.Nat.{ℕ}
 use lib.ListN.{get_or}
 use lib.Ieee.{nan}

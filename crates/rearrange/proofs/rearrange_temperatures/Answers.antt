@@ -1,8 +1,7 @@
--- `rearrange::rearrange_temperatures` meets its contract (01, Mix). The loop's invariant: after k rounds, none of which gave order, the rounds left give the whole mixing.
+-- `rearrange_temperatures` meets its contract (01, Mix): each round is one of the definition's.
 use mathlib.Core.Path.{refl, sym, ap, ◌∙◌}
 use mathlib.Core.Bool.{true, false}
 use native.Mathlib.Omega.{arith}
-use native.Mathlib.Nat.{sub-zero}
 use Rattle.mixing.specs.Rearrange.{rearrange}
 use Rattle.mixing.specs.Mix.{answer_of, temps_of}
 use Rattle.mixing.proofs.Rounds.{rounds_sorted, rounds_none, rounds_next}
@@ -10,26 +9,22 @@ use Rattle.rearrange.proofs.rearrange_temperatures.Goals as goal
 
 pub loop-k-init : goal.loop-k-init
 unfolding rearrange
-loop-k-init c = (omega arith, refl, rw (sub-zero, c.max_rounds-limit.ensures))
+loop-k-init c = refl
 
-pub returns-in-None : goal.returns-in-None
-returns-in-None c =
-    let same = c.loop-k.invariant.1 in
-    rw same at c.rearrange_plain.ensures
-
-pub returns-in-Some-true : goal.returns-in-Some-true
-returns-in-Some-true c =
+pub returns-then-work_round : goal.returns-then-work_round
+returns-then-work_round c =
     let at = c.loop-k in
-    let e = at.invariant.2 ∙ (rounds_next _ at.k _ _ _ _ true c.loop-k-test.true c.in-Some-true.ensures.leaves (sym c.in-Some-true.ensures.tells ∙ c.in-Some-true.field-0-test) ∙ rounds_sorted _ _ _ _ _) in
+    let round = c.work_round.ensures in
+    let e = at.invariant ∙ rounds_next _ at.k _ _ _ _ true (omega arith) round.leaves (sym round.tells ∙ c.if-work_round.true) ∙ rounds_sorted _ _ _ _ _ in
     record { answers = sym (ap answer_of e); leaves = sym (ap (temps_of _) e) }
 
 pub loop-k-preserved : goal.loop-k-preserved
 loop-k-preserved c =
     let at = c.loop-k in
-    (omega arith, at.invariant.1, at.invariant.2 ∙ rounds_next _ at.k _ _ _ _ false c.loop-k-test.true c.in-Some-false.ensures.leaves (sym c.in-Some-false.ensures.tells ∙ c.in-Some-false.field-0-test))
+    let round = c.work_round.ensures in
+    at.invariant ∙ rounds_next _ at.k _ _ _ _ false (omega arith) round.leaves (sym round.tells ∙ c.if-work_round.false)
 
 pub returns : goal.returns
 returns c =
-    let at = c.loop-k in
-    let e = at.invariant.2 ∙ rounds_none _ _ _ _ _ (omega arith) in
-    record { answers = sym (ap answer_of e); leaves = at.invariant.1 ∙ sym (ap (temps_of _) e) }
+    let e = c.loop-k.invariant ∙ rounds_none _ _ _ _ _ (omega arith) in
+    record { answers = sym (ap answer_of e); leaves = sym (ap (temps_of _) e) }

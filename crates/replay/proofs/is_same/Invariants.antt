@@ -1,4 +1,4 @@
--- What is left of the stored lines, against what is left of the job, decides, and each record leaves fewer.
+-- The loop of `is_same`: what is left of the stored lines, against what is left of the job, decides, and each record leaves fewer.
 use Rattle.std.proofs.Common.{length}
 use Rattle.job_model.proofs.Ends.{records_left}
 use Rattle.replay.proofs.Comparing.{Comparing}

@@ -1,4 +1,4 @@
--- `sum2::add_smaller` meets its contract (01, Arithmetic underneath): the shorter way to work what a sum loses, by Sterbenz's lemma.
+-- `add_smaller` meets its contract (01, Arithmetic underneath): the shorter way to work what a sum loses, by Sterbenz's lemma.
 use mathlib.Core.Path.{refl}
 use denote.Floats.{passes}
 use Rattle.shorter_sums.proofs.FastTwoSum.{fast_two_sum}

@@ -1,4 +1,4 @@
--- `sum2::one_term` meets its contract (01, Arithmetic underneath): of one finite term nothing is lost.
+-- `one_term` meets its contract (01, Arithmetic underneath): of one finite term nothing is lost.
 use mathlib.Core.Path.{sym}
 use denote.Floats.{passes}
 use Rattle.numeric.proofs.Members.{one_term}

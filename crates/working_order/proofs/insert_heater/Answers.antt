@@ -1,6 +1,7 @@
 -- `insert_heater` meets its contract. The loop's invariant: those worked before x have moved down, and inserting x among those left gives the whole.
 use mathlib.Core.Path.{◌≡◌, sym, ◌∙◌}
 use Prim.Native.Nat.{◌-◌}
+use lib.ListN.{length}
 use native.Mathlib.Omega.{arith}
 use Rattle.working_order.proofs.Insert.{inserting_next, inserting_stop, inserting_end}
 use Rattle.working_order.proofs.insert_heater.Goals as goal
@@ -17,5 +18,5 @@ loop-j-preserved c =
 pub returns : goal.returns
 returns c =
     let at = c.loop-j in
-    let last : c.args.n - 1 ≡ at.j = omega (arith, at.invariant.high) in
+    let last : length c.args.positions.now - 1 ≡ at.j = omega (arith, at.invariant.high) in
     rw last (inserting_end _ _ _ _ _ _ (omega arith) at.invariant (omega arith))

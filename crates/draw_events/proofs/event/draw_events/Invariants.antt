@@ -1,4 +1,5 @@
--- `event::draw_events` meets its contract (01, Draw; Refill; refusals 9 and 10). The loop's invariant: the events left, from where those before them have come to, give what all of them give.
+-- `event::draw_events` meets its contract (01, Draw; Refill; refusals 9 and 10). The loop's invariant: the events left, from where those before them have come
+-- to, give what all of them give.
 use mathlib.Core.Path.{◌≡◌}
 use lib.ListN.{drop}
 use Rattle.draw_events.specs.Event.{draw_all}

@@ -6,5 +6,5 @@ use Rattle.numeric.specs.Iterate.{Rest}
 use Rattle.numeric.specs.Sum2.{add_at}
 use Rattle.draw_events.proofs.kept.sum_first.Given as goal
 
-abbrev pub invariant-loop-k : goal.invariant-loop-k
-invariant-loop-k l = Rest (add_at (λ (j : ℕ). get_or l.vol j nan)) l.n l.initial.a l.k l.a
+abbrev pub invariant-loop-v : goal.invariant-loop-v
+invariant-loop-v l = Rest (add_at (λ (j : ℕ). get_or l.vol j nan)) l.n l.initial.a l.v-index l.a

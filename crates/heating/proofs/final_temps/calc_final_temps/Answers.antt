@@ -8,7 +8,7 @@ use Rattle.heating.proofs.final_temps.calc_final_temps.Goals as goal
 pub returns-in-Ok : goal.returns-in-Ok
 unfolding after_mixing adjusted_input
 returns-in-Ok c =
-    let done = c.calc_temps_after_thermal_losses-done.ensures in
+    let done = c.calc_temps_after_thermal_losses-figures.ensures in
     rw (final_sorted _ _ _ _ _ _ _ _ c.calc_temps_with_energy_input.ensures _ _ _ c.rearrange_temperatures.ensures c.in-Ok.is)
     (record {
       answers = rw (done.adjusts, done.lost.loses, c.energy_input-input.ensures);

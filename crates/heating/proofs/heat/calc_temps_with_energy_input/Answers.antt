@@ -5,7 +5,7 @@ use Rattle.heating.proofs.heat.calc_temps_with_energy_input.Goals as goal
 
 pub loop-k-preserved : goal.loop-k-preserved
 loop-k-preserved c =
-    rw c.offer_to-q.ensures (rest_next _ _ _ _ _ c.loop-k-test.true c.loop-k.invariant)
+    rw c.to_layer-q.ensures (rest_next _ _ _ _ _ c.loop-k-test.true c.loop-k.invariant)
 
 pub returns : goal.returns
 unfolding heated

@@ -9,4 +9,4 @@ use Rattle.heating.specs.Heat.{offers_to}
 use Rattle.heating.proofs.heat.calc_temps_with_energy_input.Given as goal
 
 abbrev pub invariant-loop-k : goal.invariant-loop-k
-invariant-loop-k l = Rest (update_at (λ (j : ℕ) (t : Float). t ⊕ (offers_to l.layer l.offer j ⊕ zero_f) ⊘ heat_capacity l.c l.tank.vol j)) l.c.layers l.initial.temps l.k l.temps
+invariant-loop-k l = Rest (update_at (λ (j : ℕ) (t : Float). t ⊕ (offers_to l.offer.layer l.offer.energy j ⊕ zero_f) ⊘ heat_capacity l.c l.tank.vol j)) l.c.layers l.initial.temps l.k l.temps

@@ -1,4 +1,4 @@
--- Each window is one of so many, and the next one is open as this one was.
+-- The loop of `input::run_input`: each window is one of so many, and the next one is open as this one was.
 use Rattle.job_windows.proofs.Taken.{Going}
 use Rattle.job_windows.proofs.input.run_input.Given as goal
 

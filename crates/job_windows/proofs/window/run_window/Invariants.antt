@@ -1,4 +1,4 @@
--- The records run so far are the first of the window's, and each leaves fewer.
+-- The loop of `window::run_window`: the records run so far are the first of the window's, and each leaves fewer.
 use lib.ListN.{length}
 use Rattle.job_records.specs.Windows.{is_ready}
 use Rattle.job_model.proofs.Ends.{records_left}

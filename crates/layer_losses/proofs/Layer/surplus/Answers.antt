@@ -6,4 +6,4 @@ use Rattle.layer_losses.proofs.Layer.surplus.Goals as goal
 
 pub returns : goal.returns
 unfolding surplus_term of_bits
-returns c = rw (c.unwrap_or.ensures, c.upper.ensures, upper_or_nan c.args.p, c.loss-lost.ensures, c.is_warmed.ensures)
+returns c = rw (c.unwrap_or.ensures, c.upper.ensures, upper_or_nan c.args.p, c.loss-lost.ensures _ _ c.limit.ensures)

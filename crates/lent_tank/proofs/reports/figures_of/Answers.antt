@@ -1,17 +1,8 @@
--- `reports::figures_of` meets its contract (01, The four calls). The loop's invariant: writing the heaters left gives the whole.
-use Rattle.std.proofs.Common.{◌∙◌}
-use Rattle.numeric.specs.Iterate.{rest_start, rest_next, rest_end}
-use Rattle.numeric.specs.Double.{zero_f}
-use Rattle.lent_tank.specs.Reports.{figures_of}
-use Rattle.lent_tank.proofs.Places.{three_rows}
+-- `reports::figures_of` meets its contract (01, The four calls): three numbers of each line.
+use Rattle.tank_model.specs.declared.HeaterLine.{HeaterLine}
+use Rattle.lent_tank.specs.Reports.{no_line, figures_of}
 use Rattle.lent_tank.proofs.reports.figures_of.Goals as goal
-
-pub loop-h-init : goal.loop-h-init
-loop-h-init c = rest_start _ _ _
-
-pub loop-h-preserved : goal.loop-h-preserved
-loop-h-preserved c = rest_next _ _ _ _ _ c.loop-h-test.true c.loop-h.invariant
 
 pub returns : goal.returns
 unfolding figures_of
-returns c = rest_end _ _ _ _ _ c.loop-h-test.false c.loop-h.invariant ∙ three_rows _ _ _ zero_f
+returns c = c.three_each.ensures (λ (x : HeaterLine). x.adjusted) (λ (x : HeaterLine). x.supplied) (λ (x : HeaterLine). x.losses) no_line (λ x r says. says)

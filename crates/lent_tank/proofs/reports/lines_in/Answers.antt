@@ -1,16 +1,9 @@
--- `reports::lines_in` meets its contract (01, The four calls). The loop's invariant: writing the heaters left gives the whole.
-use Rattle.std.proofs.Common.{◌∙◌}
-use Rattle.numeric.specs.Iterate.{rest_start, rest_next, rest_end}
-use Rattle.lent_tank.specs.Layout.{lines_in}
-use Rattle.lent_tank.proofs.Places.{one_row}
+-- `reports::lines_in` meets its contract (01, The four calls): each place holds its line.
+use Rattle.std.proofs.Common.{rules}
+use Rattle.lent_tank.specs.Layout.{line_in, lines_in}
+use Rattle.lent_tank.proofs.Places.{row}
 use Rattle.lent_tank.proofs.reports.lines_in.Goals as goal
-
-pub loop-h-init : goal.loop-h-init
-loop-h-init c = rest_start _ _ _
-
-pub loop-h-preserved : goal.loop-h-preserved
-loop-h-preserved c = rest_next _ _ _ _ _ c.loop-h-test.true c.loop-h.invariant
 
 pub returns : goal.returns
 unfolding lines_in
-returns c = rw (← c.flags_in-on.ensures) (rest_end _ _ _ _ _ c.loop-h-test.false c.loop-h.invariant ∙ one_row _ _)
+returns c = rw (← c.flags_in-on.ensures) (row _ _ (line_in c.args.figures.now c.flags_in-on.result c.args.rounds.now) _ _ (λ h y t l e. (search rules, search rules)) c.from_fn.ensures.items)

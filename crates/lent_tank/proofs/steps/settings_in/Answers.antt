@@ -1,16 +1,9 @@
--- `steps::settings_in` meets its contract (01, The four calls). The loop's invariant: writing the heaters left gives the whole.
-use Rattle.std.proofs.Common.{◌∙◌}
-use Rattle.numeric.specs.Iterate.{rest_start, rest_next, rest_end}
-use Rattle.lent_tank.specs.Layout.{settings_in}
-use Rattle.lent_tank.proofs.Places.{one_row}
+-- `steps::settings_in` meets its contract (01, The four calls): each place holds its set points.
+use Rattle.std.proofs.Common.{rules}
+use Rattle.lent_tank.specs.Layout.{setting_in, settings_in}
+use Rattle.lent_tank.proofs.Places.{row}
 use Rattle.lent_tank.proofs.steps.settings_in.Goals as goal
-
-pub loop-h-init : goal.loop-h-init
-loop-h-init c = rest_start _ _ _
-
-pub loop-h-preserved : goal.loop-h-preserved
-loop-h-preserved c = rw (c.points_in.ensures) (rest_next _ _ _ _ _ c.loop-h-test.true c.loop-h.invariant)
 
 pub returns : goal.returns
 unfolding settings_in
-returns c = rw (← c.flags_in-there.ensures) (rest_end _ _ _ _ _ c.loop-h-test.false c.loop-h.invariant ∙ one_row _ _)
+returns c = rw (← c.flags_in-there.ensures) (row _ _ (setting_in c.flags_in-there.result c.args.points.now) _ _ (λ h y t l e. (search rules, search rules)) c.from_fn.ensures.items)

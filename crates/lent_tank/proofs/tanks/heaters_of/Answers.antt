@@ -1,17 +1,13 @@
--- `tanks::heaters_of` meets its contract (01, The four calls). The loop's invariant: writing the heaters left gives the whole.
-use Rattle.std.proofs.Common.{◌∙◌}
-use Rattle.numeric.specs.Iterate.{rest_start, rest_next, rest_end}
+-- `tanks::heaters_of` meets its contract (01, The four calls): three numbers of each heater.
+use Rattle.std.specs.Prelude.{unwrap_or}
 use Rattle.numeric.specs.Double.{zero_f}
+use Rattle.tank_model.specs.declared.Heater.{Heater}
+use Rattle.tank_model.specs.Fixed.{no_heater}
 use Rattle.lent_tank.specs.Layout.{heaters_of}
-use Rattle.lent_tank.proofs.Places.{three_rows}
 use Rattle.lent_tank.proofs.tanks.heaters_of.Goals as goal
-
-pub loop-h-init : goal.loop-h-init
-loop-h-init c = rest_start _ _ _
-
-pub loop-h-preserved : goal.loop-h-preserved
-loop-h-preserved c = rw (c.unwrap_or.ensures) (rest_next _ _ _ _ _ c.loop-h-test.true c.loop-h.invariant)
 
 pub returns : goal.returns
 unfolding heaters_of
-returns c = rest_end _ _ _ _ _ c.loop-h-test.false c.loop-h.invariant ∙ three_rows _ _ _ zero_f
+returns c =
+    c.three_each.ensures (λ (x : Heater). x.rated) (λ (x : Heater). x.position) (λ (x : Heater). unwrap_or x.thermostat zero_f) no_heater
+    (λ x r says. says)

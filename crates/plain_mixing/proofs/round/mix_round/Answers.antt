@@ -1,4 +1,5 @@
--- `round::mix_round` meets its contract (01, Mix). The loop's invariant: the pairs left, from the walk so far, give the whole round; the group starts at or below the next pair.
+-- `round::mix_round` meets its contract (01, Mix). The loop's invariant: the pairs left, from the walk so far, give the whole round; the group starts at or
+-- below the next pair.
 use mathlib.Core.Path.{ap}
 use native.Mathlib.Omega.{arith}
 use Rattle.numeric.specs.Iterate.{rest_start, rest_next, rest_end}

@@ -1,4 +1,5 @@
--- `round::mix_round` meets its contract (01, Mix). The loop's invariant: the pairs left, from the walk so far, give the whole round; the group starts at or below the next pair.
+-- `round::mix_round` meets its contract (01, Mix). The loop's invariant: the pairs left, from the walk so far, give the whole round; the group starts at or
+-- below the next pair.
 use Prim.Native.Nat.{◌-◌, ◌≤◌}
 use Rattle.numeric.specs.Iterate.{Rest}
 use Rattle.mixing.specs.Round.{pair}

@@ -1,23 +1,14 @@
--- `fields::volumes_at` meets its contract (01, Job). The loop's invariant: the first i places are filled.
-use Rattle.numeric.specs.Tabulate.{tabulate}
-use mathlib.Core.Path.{◌≡◌, refl}
-use Prim.Native.Nat.{ℕ, ◌+◌, ◌*◌}
-use native.Mathlib.Omega.{arith}
-use lib.Ieee.{nan}
+-- `fields::volumes_at` meets its contract (01, Job): the first n places are filled.
+use Rattle.std.proofs.Common.{◌≡◌, ℕ, ◌+◌, ◌*◌, arith, length, take}
+use Rattle.std.proofs.lemmas.List.{length-take-le}
 use Rattle.job_records.specs.Bytes.{double_at}
 use Rattle.job_records.specs.Fields.{no_volumes, volumes_at}
-use Rattle.job_records.proofs.Filling.{filled_next}
 use Rattle.record_bodies.proofs.fields.volumes_at.Goals as goal
-
-pub loop-i-init : goal.loop-i-init
-unfolding tabulate
-loop-i-init c = (omega arith, refl)
-
-pub loop-i-preserved : goal.loop-i-preserved
-loop-i-preserved c = (omega arith, rw (c.f64_at.ensures, c.loop-i.invariant.1) (filled_next (λ (j : ℕ). double_at c.args.s.now (c.args.at + 8 * j)) nan c.loop-i.i no_volumes (omega arith)))
 
 pub returns : goal.returns
 unfolding volumes_at
 returns c =
-    let e : c.loop-i.i ≡ c.args.n = omega arith in
-    rw e at c.loop-i.invariant.1
+    let a = c.args in
+    let many : length (take a.n no_volumes) ≡ a.n = length-take-le a.n no_volumes (omega arith) in
+    let filled = rw many at (c.fill_from.ensures (λ (i : ℕ). double_at a.s.now (a.at + 8 * i)) (λ k b x l e told. rw e at told)) in
+    rw filled

@@ -1,4 +1,4 @@
--- `running::run_pair` meets its contract (01, Mix): the pair joins the group, or it ends it and starts the next.
+-- `round::run_pair` meets its contract (01, Mix): the pair joins the group, or it ends it and starts the next.
 use mathlib.Core.Path.{refl, ◌∙◌}
 use native.Mathlib.Omega.{arith}
 use Rattle.running_group.proofs.Parting.{follows_part}

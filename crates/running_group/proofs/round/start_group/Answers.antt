@@ -1,4 +1,4 @@
--- `running::start_group` meets its contract (01, Mix): the two sums have one term each.
+-- `round::start_group` meets its contract (01, Mix): the two sums have one term each.
 use mathlib.Core.Path.{refl, sym, subst}
 use lib.Dec.{T}
 use lib.Ieee.{Float}

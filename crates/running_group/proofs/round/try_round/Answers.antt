@@ -1,4 +1,4 @@
--- `running::try_round` meets its contract (01, Mix). The loop's invariant: what is kept after i pairs follows the round by definition.
+-- `round::try_round` meets its contract (01, Mix). The loop's invariant: what is kept after i pairs follows the round by definition.
 use mathlib.Core.Path.{◌≡◌, refl, sym, ◌∙◌}
 use mathlib.Core.Bool.{Bool, true, false}
 use native.Mathlib.Omega.{arith}

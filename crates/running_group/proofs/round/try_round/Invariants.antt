@@ -1,4 +1,4 @@
--- `running::try_round` meets its contract (01, Mix). The loop's invariant: what is kept after i pairs follows the round by definition.
+-- `round::try_round` meets its contract (01, Mix). The loop's invariant: what is kept after i pairs follows the round by definition.
 use Prim.Native.Nat.{◌-◌, ◌≤◌}
 use Rattle.layer_joining.specs.Running.{Follows}
 use Rattle.running_group.proofs.round.try_round.Given as goal

@@ -13,8 +13,8 @@ returns-in-Ok c =
     record { counts_long = c.told-counts; numbers_long = c.told-numbers; totals_long = c.told-totals; figures_long = c.told-figures; rounds_long = c.told-rounds } in
     let t = tank_in i.counts.now i.numbers.now i.temps.now i.heaters.now i.thermostats.now i.flags.now in
     let f : fixed_by c.cylinder_in-c.result (placed_heaters (get_or i.counts.now 1 0) c.fitted_in-fitted.result) ≡ fixed_in t = rw (c.cylinder_in-c.ensures, c.fitted_in-fitted.ensures) in
-    let w = rw (c.settings_in.ensures, c.flags_in-on.ensures) at c.in-Ok.ensures in
-    accepted_in_place i.counts.now i.numbers.now i.temps.now i.heaters.now i.thermostats.now i.flags.now i.totals.now i.figures.now i.line_flags.now i.rounds.now long _ _ f _ _ _ c.no_notes-notes.ensures _ w _ c.bytes_of.ensures _ _ _ _ c.put_report.ensures
+    let w = rw (c.step_in-a.ensures, c.flags_in-on.ensures) at c.in-Ok.ensures in
+    accepted_in_place i.counts.now i.numbers.now i.temps.now i.heaters.now i.thermostats.now i.flags.now i.totals.now i.figures.now i.line_flags.now i.rounds.now long _ _ f _ _ _ c.no_notes-notes.ensures _ w _ c.bytes_of.ensures _ _ _ _ (rw c.of.ensures at c.put_report.ensures)
 
 pub returns-in-Err : goal.returns-in-Err
 returns-in-Err c =
@@ -23,5 +23,5 @@ returns-in-Err c =
     record { counts_long = c.told-counts; numbers_long = c.told-numbers; totals_long = c.told-totals; figures_long = c.told-figures; rounds_long = c.told-rounds } in
     let t = tank_in i.counts.now i.numbers.now i.temps.now i.heaters.now i.thermostats.now i.flags.now in
     let f : fixed_by c.cylinder_in-c.result (placed_heaters (get_or i.counts.now 1 0) c.fitted_in-fitted.result) ≡ fixed_in t = rw (c.cylinder_in-c.ensures, c.fitted_in-fitted.ensures) in
-    let w = rw (c.settings_in.ensures, c.flags_in-on.ensures) at c.in-Err.ensures in
+    let w = rw (c.step_in-a.ensures, c.flags_in-on.ensures) at c.in-Err.ensures in
     rw c.number.ensures (refused_in_place i.counts.now i.numbers.now i.temps.now i.heaters.now i.thermostats.now i.flags.now i.totals.now i.figures.now i.line_flags.now i.rounds.now long _ _ f _ _ _ c.no_notes-notes.ensures _ w)

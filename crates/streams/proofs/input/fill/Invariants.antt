@@ -1,4 +1,4 @@
--- No byte is counted that the buffer does not have, and each read brings a byte at least, or leaves a try fewer for the rest.
+-- The loop of `input::fill`: no byte is counted that the buffer does not have, and each read brings a byte at least, or leaves a try fewer for the rest.
 use Rattle.std.proofs.Common.{◌+◌, ◌-◌, ◌*◌, ◌≤◌, length}
 use Rattle.streams.proofs.input.fill.Given as goal
 

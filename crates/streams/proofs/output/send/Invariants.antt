@@ -1,4 +1,4 @@
--- No byte is counted that the text does not have, and each write takes a byte at least, or leaves a try fewer for the rest.
+-- The loop of `output::send`: no byte is counted that the text does not have, and each write takes a byte at least, or leaves a try fewer for the rest.
 use Rattle.std.proofs.Common.{◌+◌, ◌-◌, ◌*◌, ◌≤◌, length}
 use Rattle.streams.proofs.output.send.Given as goal
 

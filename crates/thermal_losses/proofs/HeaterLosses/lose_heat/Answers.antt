@@ -16,7 +16,7 @@ loop-k-preserved c =
     let l = c.loop-k-test.true in
     let t = at.invariant.0.untouched at.k (le_refl _) in
     let q = at.invariant.1.untouched at.k (le_refl _) in
-    let after = rw c.layer.ensures at c.after-after.ensures in
+    let after = rw c.layer_at.ensures at c.after-after.ensures in
     let lost = ap (λ (x : LayerAfter). x.lost) after ∙ loss_local _ _ _ _ _ _ _ _ _ t q in
     let temp = ap (λ (x : LayerAfter). x.temp) after ∙ limited_local _ _ _ _ _ _ _ _ _ t q _ (loss_local _ _ _ _ _ _ _ _ _ t q) in (
       updating_next _ _ _ _ _ _ l at.invariant.0 temp,

@@ -13,6 +13,13 @@ use Rattle.thermal_losses.proofs.HeaterLosses.lose_heat.Given as goal
 
 abbrev pub invariant-loop-k : goal.invariant-loop-k
 invariant-loop-k l =
-    Updating (λ (j : ℕ) (t : Float). limited_temp l.self.points (warmed l.c l.self.tank.now.vol l.self.points l.self.before.now l.initial.temps l.initial.charged j) t (loss_at l.c l.self.tank.now.vol l.self.points l.self.before.now l.initial.temps l.initial.charged j) (heat_capacity l.c l.self.tank.now.vol j)) l.c.layers l.initial.temps l.k l.temps ×
-    Updating (λ (j : ℕ) (x : Float). x ⊕ loss_at l.c l.self.tank.now.vol l.self.points l.self.before.now l.initial.temps l.initial.charged j) l.c.layers l.initial.charged l.k l.charged ×
-    Rest (add_at (loss_at l.c l.self.tank.now.vol l.self.points l.self.before.now l.initial.temps l.initial.charged)) l.c.layers l.initial.a l.k l.a
+    let p = l.self.points in
+    let vol = l.self.tank.now.vol in
+    let before = l.self.before.now in
+    let mixed = l.initial.layers.temps in
+    let charged = l.initial.layers.charged in
+    let lost = loss_at l.c vol p before mixed charged in
+    let limited = λ (j : ℕ) (t : Float). limited_temp p (warmed l.c vol p before mixed charged j) t (lost j) (heat_capacity l.c vol j) in
+    Updating limited l.c.layers mixed l.k l.layers.temps ×
+    Updating (λ (j : ℕ) (x : Float). x ⊕ lost j) l.c.layers charged l.k l.layers.charged ×
+    Rest (add_at lost) l.c.layers l.initial.a l.k l.a

@@ -6,7 +6,7 @@ use Rattle.thermal_losses.proofs.HeaterLosses.sum_surplus.Goals as goal
 pub loop-k-preserved : goal.loop-k-preserved
 unfolding warmed loss_at
 loop-k-preserved c =
-    rw (c.surplus-s.ensures, c.layer.ensures) (span_next _ _ _ _ _ _ c.loop-k-test.true c.loop-k.invariant)
+    rw (c.surplus-s.ensures, c.layer_at.ensures) (span_next _ _ _ _ _ _ c.loop-k-test.true c.loop-k.invariant)
 
 pub returns : goal.returns
 returns c = span_end _ _ _ _ _ _ c.loop-k-test.false c.loop-k.invariant

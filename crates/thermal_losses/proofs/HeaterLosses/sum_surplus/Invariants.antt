@@ -7,4 +7,6 @@ use Rattle.thermal_losses.specs.Losses.{surplus_at}
 use Rattle.thermal_losses.proofs.HeaterLosses.sum_surplus.Given as goal
 
 abbrev pub invariant-loop-k : goal.invariant-loop-k
-invariant-loop-k l = Span (λ (j : ℕ) (x : Float). x ⊕ surplus_at l.c l.self.tank.now.vol l.self.points l.self.before.now l.mixed l.charged j) l.c.layers l.initial.k l.initial.s l.k l.s
+invariant-loop-k l =
+    let surplus = surplus_at l.c l.self.tank.now.vol l.self.points l.self.before.now l.mixed.temps l.mixed.charged in
+    Span (λ (j : ℕ) (x : Float). x ⊕ surplus j) l.c.layers l.initial.k l.initial.s l.k l.s

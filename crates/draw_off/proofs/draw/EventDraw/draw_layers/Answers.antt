@@ -1,4 +1,5 @@
--- `draw::EventDraw::draw_layers` meets its contract (01, Draw). The loop's invariant: drawing from the layers left gives the whole draw, and leaves as many of them as that does.
+-- `draw::EventDraw::draw_layers` meets its contract (01, Draw). The loop's invariant: drawing from the layers left gives the whole draw, and leaves as many of
+-- them as that does.
 use native.Mathlib.Omega.{arith}
 use mathlib.Core.Path.{sym, ◌∙◌}
 use Rattle.numeric.specs.Descent.{descent_stop, descent_end}

@@ -1,4 +1,5 @@
--- `draw::EventDraw::draw_layers` meets its contract (01, Draw). The loop's invariant: drawing from the layers left gives the whole draw, and leaves as many of them as that does.
+-- `draw::EventDraw::draw_layers` meets its contract (01, Draw). The loop's invariant: drawing from the layers left gives the whole draw, and leaves as many of
+-- them as that does.
 use Rattle.draw_off.specs.Lent.{draw_of}
 use Rattle.draw_off.proofs.Untouched.{LayersLeft}
 use Rattle.draw_off.proofs.draw.EventDraw.draw_layers.Given as goal

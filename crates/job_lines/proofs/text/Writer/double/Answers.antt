@@ -5,4 +5,4 @@ use Rattle.job_lines.proofs.text.Writer.double.Goals as goal
 
 pub returns-clause-puts : goal.returns-clause-puts
 unfolding hexadecimal
-returns-clause-puts c = rw (← c.bits_of.ensures) (writes_then c.byte.ensures.puts c.digits.ensures.puts)
+returns-clause-puts c = rw (← c.f64_to_bits_with_nan.ensures) (writes_then c.byte.ensures.puts c.digits.ensures.puts)

@@ -1,0 +1,2 @@
+-- The lemmas that the proofs of `layer_losses` share.
+mod Limit

@@ -1,9 +1,0 @@
--- `tanks::fitted_in` meets its contract (01, The four calls). The loop's invariant: writing the heaters left gives the whole.
-use Rattle.numeric.specs.Iterate.{Rest}
-use Rattle.working_order.specs.Order.{max_heaters}
-use Rattle.lent_tank.specs.Layout.{heater_in}
-use Rattle.lent_tank.proofs.Places.{one_at}
-use Rattle.lent_tank.proofs.tanks.fitted_in.Given as goal
-
-abbrev pub invariant-loop-h : goal.invariant-loop-h
-invariant-loop-h l = Rest (one_at (heater_in l.heaters l.present)) max_heaters l.initial.fitted l.h l.fitted
