@@ -1,6 +1,5 @@
 // One draw event as a whole, and the events of a step in a row.
 ghost use Rattle.std.specs.Prelude.{◌≡◌, ◌≤◌};
-ghost use Rattle.mixing.specs.Limits.{max_layers};
 ghost use Rattle.draw_events.specs.Event.{event_finite, event_of, draw_all};
 ghost use Rattle.draw_events.specs.Lent.{drawing_of, drawing_after};
 ghost use Rattle.draw_events.specs.Kept.{IsSumOf};

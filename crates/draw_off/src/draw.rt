@@ -1,5 +1,5 @@
 // `extract_hot_water`: what one event takes from the layers, from the top down, and from the feed.
-ghost use Rattle.std.specs.Prelude.{◌≡◌, List, ◌≤◌, ◌<◌, Float};
+ghost use Rattle.std.specs.Prelude.{◌≡◌, List, ◌<◌, Float};
 ghost use Rattle.mixing.specs.Limits.{max_layers};
 ghost use Rattle.draw_off.specs.Draw.{gives_all, share, rest_after, counted, draw_share, draw_layer, draw_layers, unreached, draw_feed};
 ghost use Rattle.draw_off.specs.Draw.{extract, untouched};

@@ -6,7 +6,7 @@ ghost use Rattle.refusals.specs.Refusals.{number_of, number_in};
 ghost use Rattle.mixing.specs.Limits.{max_layers};
 ghost use Rattle.working_order.specs.Order.{max_heaters};
 ghost use Rattle.job_lines.specs.Put.{Writes, PutWhole};
-ghost use Rattle.job_lines.specs.Lengths.{double_bytes, head_bytes, totals_bytes, layers_bytes, heater_bytes, before_heaters, max_text, max_place};
+ghost use Rattle.job_lines.specs.Lengths.{head_bytes, totals_bytes, layers_bytes, heater_bytes, before_heaters, max_text, max_place};
 ghost use Rattle.job_lines.specs.Lines.{head_text, totals_text, layers_line, heater_line, heater_lines};
 ghost use Rattle.job_lines.specs.Lines.{refusal_line, refused_lines, accepted_lines};
 

@@ -7,7 +7,6 @@ use job_model::Job;
 use storage_tank::Report;
 use storage_tank::make::zero_tank;
 use tank_model::{Heater, TankDesign};
-use working_order::MAX_HEATERS;
 
 // One heater more, after those given before it.
 pub fn with_heater(d: TankDesign, h: Heater) -> TankDesign

@@ -8,7 +8,7 @@ pub mod reports;
 pub mod steps;
 pub mod tanks;
 
-ghost use Rattle.std.specs.Prelude.{◌≡◌, List, [], ◌∷◌, length, Float};
+ghost use Rattle.std.specs.Prelude.{◌≡◌, [], ◌∷◌, length, Float};
 ghost use Rattle.working_order.specs.Order.{max_heaters};
 ghost use Rattle.lent_tank.specs.Layout.{three_of};
 
