@@ -52,8 +52,8 @@ uint8_t huszmago_step(size_t counts[2], double numbers[6], double temps[LAYERS],
                       uint8_t flags[HEATERS], double totals[4], double figures[3 * HEATERS], uint8_t line_flags[HEATERS], size_t rounds[HEATERS], double feed,
                       const size_t asked[2], const double volumes[EVENTS], const uint8_t present[2 * HEATERS], const double points[2 * HEATERS]);
 
-/* The same through the method `StorageTank::demand_hot_water`, by value: what it hands back is written in all ten arrays, refused or not. Each flag is then
-   0 or 1, whatever byte was lent. */
+/* The same through the method `StorageTank::demand_hot_water`, by value: what it hands back stands in all ten arrays after it, refused or not; the heaters'
+   numbers, which no step changes, stay as they were lent, and the other nine are written. Each flag is then 0 or 1, whatever byte was lent. */
 uint8_t huszmago_demand_hot_water(size_t counts[2], double numbers[6], double temps[LAYERS], double heaters[3 * HEATERS], uint8_t thermostats[HEATERS],
                                   uint8_t flags[HEATERS], double totals[4], double figures[3 * HEATERS], uint8_t line_flags[HEATERS], size_t rounds[HEATERS],
                                   double feed, const size_t asked[2], const double volumes[EVENTS], const uint8_t present[2 * HEATERS],

@@ -1,7 +1,6 @@
 // The lines of a step's history.
 // Kept: the room is asked of each call and `within` told by each: each text takes some, so a type that kept it would have to be told again after each.
 ghost use Rattle.std.specs.Prelude.{◌+◌, ◌≤◌};
-ghost use Rattle.refusals.specs.Refusals.{number_in};
 ghost use Rattle.working_order.specs.Order.{max_heaters};
 ghost use Rattle.job_lines.specs.Put.{Writes, PutWhole};
 ghost use Rattle.job_lines.specs.Lengths.{double_bytes, max_place};
@@ -11,7 +10,6 @@ ghost use Rattle.job_history.specs.Lengths.{points_bytes, course_bytes, outcome_
 use crate::{TurnFact, Turns};
 use job_lines::lines::put_head;
 use job_lines::text::{Put, Writer, put_all};
-use refusals::Refusal;
 use set_points::SetPoints;
 
 // A space, and the set point or a hyphen.
@@ -78,12 +76,12 @@ impl Put for TurnFact {
 }
 
 // A step's history: its head, and a line for each turn.
-pub fn history_lines(buf: &mut [u8], index: usize, outcome: Result<(), Refusal>, r: Turns) -> usize
+pub fn history_lines(buf: &mut [u8], index: usize, number: u8, r: Turns) -> usize
     requires { r.count ≤ max_heaters }
-    ensures { PutWhole (history_lines index (number_in outcome) r) buf.old buf.new result }
+    ensures { PutWhole (history_lines index number r) buf.old buf.new result }
 {
     let mut w = Writer { buf, at: 0 };
-    put_head(&mut w, index, outcome);
+    put_head(&mut w, index, number);
     w.byte(b'\n');
     put_all(&mut w, &r.facts[..r.count]);
     w.at

@@ -5,6 +5,7 @@ use crate::facts::told_step;
 use crate::lines::history_lines;
 use job_model::PrintedStep;
 use job_run::StepPrinter;
+use refusals::number_in;
 use storage_tank::{Report, StorageTank};
 use tank_model::Step;
 
@@ -23,7 +24,7 @@ impl StepPrinter for History {
     ) -> PrintedStep {
         let told = told_step(tank, report, step);
         let stepped = told.stepped;
-        let length = history_lines(buf, index, stepped.outcome, told.turns);
+        let length = history_lines(buf, index, number_in(&stepped.outcome), told.turns);
         PrintedStep { stepped, length }
     }
 }

@@ -2,7 +2,7 @@
 use Rattle.std.specs.Prelude.{ℕ, suc, ◌+◌, ◌≤◌, ◌≡◌, refl, List, [], ◌∷◌, ◌++◌, length, take, drop, set}
 use Rattle.std.proofs.Common.{arith, add-zero, sym, ap, ◌∙◌, length-append, take_all, take_at}
 use Rattle.std.proofs.lemmas.List.Edits.{sets}
-use Rattle.std.proofs.Math.Seq.{take-nil}
+use Rattle.std.proofs.Math.Seq.{length-sets, take-nil}
 use Rattle.job_lines.specs.declared.text.Writer.{Writer}
 use Rattle.job_lines.specs.Lengths.{max_text}
 
@@ -45,6 +45,9 @@ put_then {b} {at} {t} {c} {i} {u} {d} {j} p q = record {
 
 pub put_nothing : (b : List ℕ) (at : ℕ) → Put b at [] b at
 put_nothing b at = record { stands = refl; ends = omega arith }
+
+pub put_length : {b : List ℕ} {at : ℕ} {t c : List ℕ} {i : ℕ} → Put b at t c i → length c ≡ length b
+put_length {b} {at} {t} p = ap length p.stands ∙ length-sets b at t
 
 pub writes_then : {x y z : Writer} {t u : List ℕ} → Writes x t y → Writes y u z → Writes x (t ++ u) z
 writes_then p q = record { same = q.same ∙ p.same; puts = put_then p.puts q.puts }

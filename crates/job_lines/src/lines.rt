@@ -2,7 +2,7 @@
 // Kept: an array of layers and a count of any size, as a tank has them: 01 cuts the count here, and a slice would ask each caller to cut it.
 // Kept: the room is asked of each call and `within` told by each: each text takes some, so a type that kept it would have to be told again after each.
 ghost use Rattle.std.specs.Prelude.{ℕ, ◌+◌, ◌*◌, ◌≤◌, ◌<◌, get_or, length};
-ghost use Rattle.refusals.specs.Refusals.{number_of, number_in};
+ghost use Rattle.refusals.specs.Refusals.{number_of};
 ghost use Rattle.mixing.specs.Limits.{max_layers};
 ghost use Rattle.working_order.specs.Order.{max_heaters};
 ghost use Rattle.job_lines.specs.Put.{Writes, PutWhole};
@@ -12,20 +12,21 @@ ghost use Rattle.job_lines.specs.Lines.{refusal_line, refused_lines, accepted_li
 
 use crate::text::{Writer, put_all};
 use mixing::limits::MAX_LAYERS;
-use refusals::{Refusal, number_in};
+use refusals::Refusal;
 use storage_tank::Report;
 use tank_model::HeaterLine;
 use working_order::MAX_HEATERS;
 
 // S, the step's index and the number of what it answers, the line not ended.
-pub fn put_head(w: &mut Writer, index: usize, outcome: Result<(), Refusal>)
+// Kept: the number of a refusal, here and below, as lines print any number: a `Refusal` in its place would ask for one of 01's.
+pub fn put_head(w: &mut Writer, index: usize, number: u8)
     requires { w.old.at + head_bytes ≤ max_place }
-    ensures puts { Writes w.old (head_text index (number_in outcome)) w.new }
+    ensures puts { Writes w.old (head_text index number) w.new }
     ensures within { w.new.at ≤ w.old.at + head_bytes }
 {
     w.byte(b'S');
     w.number(index);
-    w.number(usize::from(number_in(&outcome)));
+    w.number(usize::from(number));
 }
 
 // The four totals, and the line's end.
@@ -81,10 +82,9 @@ fn put_heater_lines(w: &mut Writer, order: &[usize], lines: &[HeaterLine; MAX_HE
 }
 
 // E, a number and the record's start.
-pub fn refusal_line(buf: &mut [u8], refusal: Refusal, offset: usize) -> usize
-    ensures { PutWhole (refusal_line (number_of refusal) offset) buf.old buf.new result }
+pub fn refusal_line(buf: &mut [u8], number: u8, offset: usize) -> usize
+    ensures { PutWhole (refusal_line number offset) buf.old buf.new result }
 {
-    let number = refusal.number();
     let mut w = Writer { buf, at: 0 };
     w.byte(b'E');
     w.number(usize::from(number));
@@ -104,7 +104,7 @@ pub fn refused_lines(
     ensures { PutWhole (refused_lines index (number_of refusal) layers temps.now) buf.old buf.new result }
 {
     let mut w = Writer { buf, at: 0 };
-    put_head(&mut w, index, Err(refusal));
+    put_head(&mut w, index, refusal.number());
     w.byte(b'\n');
     put_layers_line(&mut w, &temps[..layers.min(MAX_LAYERS)]);
     w.at
@@ -123,7 +123,7 @@ pub fn accepted_lines(
     ensures { PutWhole (accepted_lines index report.now layers temps.now (length order.now) order.now) buf.old buf.new result }
 {
     let mut w = Writer { buf, at: 0 };
-    put_head(&mut w, index, Ok(()));
+    put_head(&mut w, index, 0);
     put_totals(&mut w, report);
     put_layers_line(&mut w, &temps[..layers.min(MAX_LAYERS)]);
     put_heater_lines(&mut w, order, &report.lines);

@@ -26,7 +26,7 @@ fn refuse(buf: &mut [u8], j: Job, refusal: Refusal) -> Printed
     requires { Countable j }
     ensures { Gives (refused_run j (number_of refusal)) buf.old buf.new result }
 {
-    let length = job_lines::lines::refusal_line(buf, refusal, j.before + j.at);
+    let length = job_lines::lines::refusal_line(buf, refusal.number(), j.before + j.at);
     Printed {
         job: end_job(j),
         length,

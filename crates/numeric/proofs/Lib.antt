@@ -11,3 +11,4 @@ pub mod SameValue
 pub mod Members
 pub mod Within
 pub mod Rising
+pub mod Filling

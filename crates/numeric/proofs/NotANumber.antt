@@ -1,15 +1,26 @@
--- Proves that what is at least something is a number, and that a number is at most 1, or above it.
-use mathlib.Core.Bool.{Bool, true, false, not, ◌&&◌, ◌||◌}
+-- Proves that a double is a number exactly where it equals itself; that what is at least something is a number; and that a number is at most 1, or above it.
+use mathlib.Core.Bool.{Bool, true, false, not, ◌&&◌, ◌||◌, true≢false}
 use mathlib.Core.Logic.{⊎_elim}
-use mathlib.Core.Path.{◌≡◌, refl, subst}
+use mathlib.Core.Path.{◌≡◌, refl, sym, subst}
 use Prim.Native.Nat.{ℕ, ◌+◌, ◌*◌, ◌≤◌, ◌<◌}
 use native.Mathlib.Omega.{arith}
 use native.Mathlib.Nat.{eq-or-lt_of_le}
 use borrow.Author.Tests.{lt-ltb, le-ltb, eq-eqb, ne_eqb}
 use lib.Dec.{T, ltb, eqb, ltb→lt, nltb→le}
-use lib.Ieee.{Float, nan, inf, fin, up, down, lt, le, eq, is_nan, of_bits}
+use lib.Ieee.{Float, nan, inf, fin, up, down, lt, le, eq, ne, is_nan, of_bits}
+use lib.Ieee.Compare.{differs_from_itself}
 use lib.Ieee.Fits.{down_pos}
 use Rattle.numeric.specs.Double.{one_f}
+
+pub equal_number : (x : Float) → eq x x ≡ true → T (not (is_nan x))
+unfolding eq is_nan
+equal_number nan h = absurd (true≢false (sym h))
+equal_number (inf s) h = tt
+equal_number (fin s m e) h = tt
+
+pub unequal_nan : (x : Float) → eq x x ≡ false → x ≡ nan
+unfolding ne
+unequal_nan x h = differs_from_itself x (subst (λ (b : Bool). T (not b)) (sym h) tt)
 
 -- nothing is at most a not-a-number
 pub not_at_nan : (x : Float) → le x nan ≡ false

@@ -11,14 +11,14 @@ use borrow.Author.Tests.{ne_eqb}
 use lib.Dec.{T, ltb, eqb, eqb→eq, ltb→lt}
 use lib.IntN.{ℤ}
 use lib.Pow.{pow_pos}
-use lib.Ieee.{Float, nan, inf, fin, binary64, up, down, mul, of_int, of_bits, le, to_unsigned}
+use lib.Ieee.{Float, nan, inf, fin, binary64, up, down, round, sum, add, mul, of_int, of_bits, le, to_unsigned}
 use lib.Ieee.Bits.{is_true}
 use lib.Ieee.Fits.{down_pos}
 use lib.Ieee.Scale.{round_same}
 use lib.Ieee.Exact.{HasValue}
 use lib.Ieee.Order.{transfer, le_of_values}
 use lib.Ieee.Back.{round_whole}
-use Rattle.numeric.specs.Double.{whole, ◌⊛◌, one_f}
+use Rattle.numeric.specs.Double.{whole, ◌⊕◌, ◌⊛◌, one_f}
 use Rattle.numeric.specs.Whole.{whole_below}
 use Rattle.numeric.proofs.NotANumber.{not_at_nan}
 
@@ -163,6 +163,23 @@ found_end zero k x l (inl z) = z
 found_end zero k x l (inr h) = absurd (omega arith)
 found_end (suc n) k x l (inl z) = let e : n ≡ 0 = omega arith in rw (e, z) (sym (rw z at (cut_found (suc n) k x (inl z))))
 found_end (suc n) k x l (inr h) = let e : n ≡ k = omega arith in rw e (sym (cut_found (suc n) k x (inr h)))
+
+-- the double of the next whole number is one more
+plus_one : (y : Float) (k : ℕ) → HasValue y false k 1 → y ⊕ one_f ≡ whole (k + 1)
+unfolding add sum of_bits of_int
+plus_one nan k v = absurd v
+plus_one (inf s) k v = absurd v
+plus_one (fin true m e) k v = let z : true ≡ false = v.0 in absurd (subst T z tt)
+plus_one (fin false m e) k v =
+    let q : m * up e * 1 ≡ k * down e = v.1 in
+    round_same binary64 false (m * up e * 1 + 1 * 1 * down e) (down e * 1) (k + 1) 1 (mul-pos (down_pos e) (pow_pos 0)) (pow_pos 0) (omega arith)
+
+pub whole_next : (k : ℕ) → k ≤ 2 ^ 53 → whole k ⊕ one_f ≡ whole (k + 1)
+whole_next k b = plus_one (whole k) k (whole_value k b)
+
+pub whole_one : one_f ≡ whole (0 + 1)
+unfolding of_bits of_int round
+whole_one = refl
 
 -- ---- the cut of a whole number by itself
 

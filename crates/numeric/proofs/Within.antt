@@ -13,7 +13,7 @@ use lib.Ieee.{Float, nan, inf, fin, Format, binary64, prec, emax, low, up, down,
 use lib.Ieee.Fits.{up_pos, down_pos, neg-fits}
 use lib.Ieee.Scale.{finite}
 use denote.Floats.{passes}
-use Rattle.numeric.specs.Double.{◌⊖◌, ◌⊛◌, zero_f, relative_tolerance, wide_tolerance}
+use Rattle.numeric.specs.Double.{◌⊖◌, ◌⊛◌, zero_f, relative_tolerance, narrow_tolerance, wide_tolerance}
 use Rattle.numeric.specs.Compare.{max_of2}
 use Rattle.numeric.specs.Close.{magnitude, infinite, within, close, ClosePair}
 use Rattle.numeric.proofs.Zeros.{is_minus_zero, add_not_minus}
@@ -191,7 +191,11 @@ close_pair (fin false m e) (inf false) t p q f z h = infinite_pair m e t f
 close_pair (fin false m e) (fin true n g) t p q f z h = absurd (true≢false (sym h))
 close_pair (fin false m e) (fin false n g) t p q f z h = finite_pair m e t n g (ltb-true (m * up e * down g) (n * up g * down e) h) p q
 
--- the wide tolerance is finite
+-- the tolerances are finite
+pub narrow_finite : finite narrow_tolerance ≡ true
+unfolding of_bits
+narrow_finite = refl
+
 pub wide_finite : finite wide_tolerance ≡ true
 unfolding of_bits
 wide_finite = refl

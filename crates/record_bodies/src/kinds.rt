@@ -3,13 +3,13 @@
 ghost use Rattle.std.specs.Prelude.{◌≡◌, ◌+◌, ◌*◌, ◌≤◌, length};
 ghost use Rattle.working_order.specs.Order.{max_heaters};
 ghost use Rattle.job_records.specs.Bytes.{u32_at};
-ghost use Rattle.job_records.specs.Records.{tank_at, heater_record_at, heater_at, step_at, by_kind};
+ghost use Rattle.job_records.specs.Records.{tank_at, heater_record_at, heater_at, step_at, by_kind, reading_at};
 ghost use Rattle.job_records.specs.Fields.{step_volumes_at};
 
 use crate::fields::{are_presence_bytes, settings_at, volumes_at};
 use draw_events::event::MAX_EVENTS;
 use job_records::bytes::{f64_at, u16_at};
-use job_records::{Before, Record, TankRecord};
+use job_records::{Before, Reading, Record, TankRecord};
 use refusals::Refusal;
 use tank_model::{Heater, Step};
 
@@ -95,6 +95,22 @@ impl WholeRecord<'_> {
             settings: settings_at(s, entries, heaters),
         }))
     }
+
+    // By the kind.
+    #[tactic(auto, unfolding(job_records::specs::Records::by_kind))]
+    fn content(&self) -> Result<Record, Refusal>
+        requires { self.now.at + 6 ≤ length self.now.bytes.now }
+        ensures { result ≡ by_kind self.now.bytes.now self.now.at self.now.before }
+    {
+        // Kept: 1, 2 and 3 as numbers: 01 writes a record's kind so, and this match is where it becomes a `Record`.
+        let kind = u16_at(self.bytes, self.at + 4);
+        match kind {
+            1 => self.tank(),
+            2 => self.heater(),
+            3 => self.step(),
+            _ => Err(Refusal::Record),
+        }
+    }
 }
 
 // The volumes of a step: past 64 only their count is kept.
@@ -109,11 +125,10 @@ fn step_volumes(s: &[u8], at: usize, events: usize) -> [f64; MAX_EVENTS]
     volumes_at(s, at, events)
 }
 
-// A record whose length and kind are there, by its kind.
-#[tactic(auto, unfolding(job_records::specs::Records::by_kind))]
-pub fn record_at(s: &[u8], at: usize, size: usize, before: Before) -> Result<Record, Refusal>
+// A record whose length and kind are there, by its kind: past its length and what that counts, or at the same position where it is refused.
+pub fn record_at(s: &[u8], at: usize, size: usize, before: Before) -> Reading
     requires { (at + 6 ≤ length s.now) × (at + 4 + size ≤ length s.now) × (size ≡ u32_at s.now at) × (before.heaters ≤ max_heaters) }
-    ensures { result ≡ by_kind s.now at before }
+    ensures { result ≡ reading_at s.now at (by_kind s.now at before) }
 {
     let record = WholeRecord {
         bytes: s,
@@ -121,12 +136,10 @@ pub fn record_at(s: &[u8], at: usize, size: usize, before: Before) -> Result<Rec
         size,
         before,
     };
-    // Kept: 1, 2 and 3 as numbers: 01 writes a record's kind so, and this match is where it becomes a `Record`.
-    let kind = u16_at(s, at + 4);
-    match kind {
-        1 => record.tank(),
-        2 => record.heater(),
-        3 => record.step(),
-        _ => Err(Refusal::Record),
-    }
+    let content = record.content();
+    let next = match content {
+        Ok(_) => at + 4 + size,
+        Err(_) => at,
+    };
+    Reading { content, next }
 }

@@ -9,7 +9,7 @@ use Rattle.lent_tank.specs.Flags.{bytes_of}
 use Rattle.lent_tank.specs.Tanks.{TankHeld, TankWritten}
 use Rattle.lent_tank.specs.Reports.{line_flags_of, ReportHeld, ReportWritten}
 
--- ---- all that the call hands back is written: every byte after it is 0 or 1, refused or not
+-- ---- all that the call hands back stands there: a step leaves the heaters' numbers, and all else is written, so every byte after it is 0 or 1
 
 pub record MakeAnswered (a : Made) (number : ℕ) (counts : List ℕ) (numbers temps heaters : List Float) (thermostats flags : List ℕ) : Type 0 where
   pub number_is : number ≡ number_in a.outcome

@@ -65,7 +65,21 @@ with_state t st = record {
   flags = st.flags;
 }
 
--- the code works the step for f, leaves the state st and has noted x, where nothing was noted
+-- the code works the step for f, leaves the state st and has noted x: what it answers, whatever was noted before
+module _ (t : StorageTank) (r : Report) (a : Step) (f : Fixed) (f-is : f ≡ fixed_in t) (st : State) (x0 x : TurnNotes) where
+  pub step_refuses : (e : Refusal) → StepWorked f (state_in t) a (Err e) st x0 x → record { outcome = Err e; tank = t; report = r } ≡ stepped t r a
+  step_refuses e w = unfold stepped answer in (rw (sym (ap (λ (g : Fixed). (work g (state_in t) a).end) f-is) ∙ w.ends.0, refusal_with-number e))
+
+  pub step_accepts : (w : StepFigures) → StepWorked f (state_in t) a (Ok w) st x0 x
+      → record { outcome = Ok tt; tank = with_state t st; report = report_by w x.lines } ≡ stepped t r a
+  step_accepts w y = go y.ends.0 y.ends.1 y.ends.2
+    where
+      go : (s : Outcome) → (work f (state_in t) a).end ≡ done s → Left s w st x → record { outcome = Ok tt; tank = with_state t st; report = report_by w x.lines } ≡ stepped t r a
+      go s e l =
+          unfold stepped answer in
+          (rw (sym (ap (λ (g : Fixed). (work g (state_in t) a).end) f-is) ∙ e, ← l.recoverable_is, l.temps_are, l.totals_are, l.average_is, l.flags_are, l.lines_are))
+
+-- the same with what is noted, where nothing was before
 module _ (t : StorageTank) (r : Report) (a : Step) (f : Fixed) (f-is : f ≡ fixed_in t) (st : State) (x0 x : TurnNotes) (none : x0 ≡ no_notes) where
   noted : (s : Stepped) → s ≡ stepped t r a → x ≡ with_turns (work f (state_in t) a).turns (uncounted x0) → StepNoted t r a (record { stepped = s; notes = x })
   noted s e n =
@@ -77,7 +91,7 @@ module _ (t : StorageTank) (r : Report) (a : Step) (f : Fixed) (f-is : f ≡ fix
   step_refused e w = noted (record { outcome = Err e; tank = with_state t st; report = r }) answers w.noted
     where
       answers : record { outcome = Err e; tank = with_state t st; report = r } ≡ stepped t r a
-      answers = unfold stepped answer in (rw (w.ends.1, sym (ap (λ (g : Fixed). (work g (state_in t) a).end) f-is) ∙ w.ends.0, refusal_with-number e))
+      answers = rw w.ends.1 (step_refuses t r a f f-is st x0 x e w)
 
   pub step_accepted : (w : StepFigures) → StepWorked f (state_in t) a (Ok w) st x0 x
       → StepNoted t r a (record {
@@ -88,16 +102,5 @@ module _ (t : StorageTank) (r : Report) (a : Step) (f : Fixed) (f-is : f ≡ fix
         };
         notes = x;
       })
-  step_accepted w y = noted answered (answers y.ends.0 y.ends.1 y.ends.2) y.noted
-    where
-      answered : Stepped
-      answered = record {
-        outcome = Ok tt;
-        tank = with_state t st;
-        report = report_by w x.lines;
-      }
-
-      answers : (s : Outcome) → (work f (state_in t) a).end ≡ done s → Left s w st x → answered ≡ stepped t r a
-      answers s e l =
-          unfold stepped answer in
-          (rw (sym (ap (λ (g : Fixed). (work g (state_in t) a).end) f-is) ∙ e, ← l.recoverable_is, l.temps_are, l.totals_are, l.average_is, l.flags_are, l.lines_are))
+  step_accepted w y =
+      noted (record { outcome = Ok tt; tank = with_state t st; report = report_by w x.lines }) (step_accepts t r a f f-is st x0 x w y) y.noted

@@ -1,10 +1,23 @@
 // The call step: `StorageTank::demand_hot_water`.
 ghost use Rattle.std.specs.Prelude.{◌≡◌};
 ghost use Rattle.storage_tank.specs.Calls.{stepped};
-ghost use Rattle.storage_tank.specs.Answers.{StepNoted};
+ghost use Rattle.storage_tank.specs.Answers.{accepted_step, StepNoted};
 
 use crate::{NotedStep, Report, Stepped, StorageTank};
-use tank_model::Step;
+use step_work::work::StepFigures;
+use tank_model::{HeaterLine, Step};
+use working_order::MAX_HEATERS;
+
+// The answer of an accepted step: the tank as it was left, and its report.
+fn accepted(tank: StorageTank, w: StepFigures, lines: [HeaterLine; MAX_HEATERS]) -> Stepped
+    ensures { result ≡ accepted_step tank w lines }
+{
+    Stepped {
+        outcome: Ok(()),
+        tank,
+        report: Report::of(w, lines),
+    }
+}
 
 // The step, with what its turns noted, refused or not.
 pub fn noted_step(t: StorageTank, report: Report, a: Step) -> NotedStep
@@ -22,11 +35,7 @@ pub fn noted_step(t: StorageTank, report: Report, a: Step) -> NotedStep
         &mut notes,
     );
     let stepped = match worked {
-        Ok(w) => Stepped {
-            outcome: Ok(()),
-            tank,
-            report: Report::of(w, notes.lines),
-        },
+        Ok(w) => accepted(tank, w, notes.lines),
         Err(refusal) => Stepped {
             outcome: Err(refusal),
             tank,

@@ -1,11 +1,11 @@
--- Proves the laws of a run of parts (01, Step; Turn): what it leaves, with which number it ends, and its induction principle; that a run's parts stand in
+-- Proves the laws of a run of parts (01, Step; Turn): over `++`, what it leaves, with which number it ends, and its induction principle; that a run's parts stand in
 -- sequence, and that a sequence leaves no choice where none of its parts does. The events, the turns and the calls of a list cite these and no others.
 use Prim.Native.Nat.{ℕ, zero, suc, ◌<◌}
 use native.Mathlib.Nat.{le_of_suc-le-suc, not-suc-le-zero}
 use native.Mathlib.Omega.{arith}
 use mathlib.Core.Path.{◌≡◌, refl, sym, ap, ◌∙◌, subst}
 use mathlib.Core.Logic.{◌⊎◌, inl, inr}
-use mathlib.Core.List.{List, [], ◌∷◌}
+use mathlib.Core.List.{List, [], ◌∷◌, ◌++◌}
 use lib.ListN.{length, get_or, take}
 use Rattle.tank_model.specs.Run.{End, refused, done, end_by, ended_at, Worked, Run, first, run, InSequence}
 use Rattle.tank_model.specs.Members.{All}
@@ -43,7 +43,49 @@ refused_by Q (suc n) s (inr q) = q
 
 -- ---- a run that is worked
 
+-- the run r, and then what is worked from where it ended
+unfoldable pub then_run : {P S : Type 0} → List P → End S → (S → Run P S) → Run P S
+then_run ps (refused n) g = record { parts = ps; end = refused n }
+then_run ps (done s) g = record { parts = ps ++ (g s).parts; end = (g s).end }
+
+first_then : {P S : Type 0} (p : P) (n : ℕ) (r : Run P S) (g : S → Run P S)
+    → first p n (then_run r.parts r.end g) ≡ then_run (first p n r).parts (first p n r).end g
+unfolding first
+first_then {P} {S} p zero r g = go r.parts r.end
+  where
+    go : (ps : List P) (e : End S) → record { parts = p ∷ (then_run ps e g).parts; end = (then_run ps e g).end } ≡ then_run (p ∷ ps) e g
+    go ps (refused k) = unfold then_run in refl
+    go ps (done s) = unfold then_run in refl
+first_then p (suc n) r g = unfold then_run in refl
+
 module _ {K P S : Type 0} (f : K → S → Worked P S) where
+  -- the run of ks and js is that of ks, and then that of js from where the first ended
+  pub run_append : (ks js : List K) (s : S) → run f (ks ++ js) s ≡ then_run (run f ks s).parts (run f ks s).end (λ t. run f js t)
+  unfolding run
+  run_append [] js s = unfold then_run in refl
+  run_append (k ∷ ks) js s =
+      let w = f k s in
+      ap (first w.part w.number) (run_append ks js w.leaves) ∙ first_then w.part w.number (run f ks w.leaves) (λ t. run f js t)
+
+  -- the first n parts of a run are the run of the first n
+  pub run_take : (n : ℕ) (ks : List K) (s : S) → take n (run f ks s).parts ≡ (run f (take n ks) s).parts
+  unfolding run
+  run_take zero ks s = refl
+  run_take (suc n) [] s = refl
+  run_take (suc n) (k ∷ ks) s = go (f k s).number (run_take n ks (f k s).leaves)
+    where
+      p : P
+      p = (f k s).part
+
+      go : (m : ℕ) → take n (run f ks (f k s).leaves).parts ≡ (run f (take n ks) (f k s).leaves).parts
+          → take (suc n) (first p m (run f ks (f k s).leaves)).parts ≡ (first p m (run f (take n ks) (f k s).leaves)).parts
+      go zero e = unfold first in (ap (λ (ps : List P). p ∷ ps) e)
+      go (suc m) e = unfold first in (nothing n)
+        where
+          nothing : (i : ℕ) → take (suc i) (p ∷ []) ≡ p ∷ []
+          nothing zero = refl
+          nothing (suc i) = refl
+
   -- what every part keeps, the run keeps
   module _ (A : K → Type 0) (I : S → Type 0) (one : (k : K) (s : S) → A k → I s → I (f k s).leaves) where
     pub run_keeps : (ks : List K) (s : S) → All A ks → I s → Reached I (run f ks s).end

@@ -5,4 +5,4 @@ use Rattle.job_lines.proofs.lines.put_head.Goals as goal
 
 pub returns-clause-puts : goal.returns-clause-puts
 unfolding head_text
-returns-clause-puts c = rw (← c.number_in.ensures, ← c.from.ensures) (writes_then (writes_then c.byte.ensures.puts c.number.ensures.puts) c.number-2.ensures.puts)
+returns-clause-puts c = rw (← c.from.ensures) (writes_then (writes_then c.byte.ensures.puts c.number.ensures.puts) c.number-2.ensures.puts)

@@ -8,4 +8,4 @@ pub returns : goal.returns
 unfolding refusal_line
 returns c =
     let p = put_whole (writes_then (writes_then (writes_then c.byte.ensures.puts c.number.ensures.puts) c.number-2.ensures.puts) c.byte-2.ensures.puts).puts (omega arith) in
-    rw (← c.number-number.ensures, ← c.from.ensures) (record { ends = p.ends; stands = grind (arith, p.stands); short = p.short })
+    rw (← c.from.ensures) (record { ends = p.ends; stands = grind (arith, p.stands); short = p.short })

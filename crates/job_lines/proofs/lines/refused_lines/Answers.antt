@@ -10,4 +10,4 @@ pub returns : goal.returns
 unfolding refused_lines
 returns c =
     let p = put_whole (writes_then (writes_then c.put_head.ensures.puts c.byte.ensures.puts) c.put_layers_line.ensures.puts).puts (omega arith) in
-    rw (← (cut_by_min _ _ _ c.min.ensures).is, ← first_layers c.min.result c.args.temps.now (omega arith)) (record { ends = p.ends; stands = grind (arith, p.stands); short = p.short })
+    rw (← c.number.ensures, ← (cut_by_min _ _ _ c.min.ensures).is, ← first_layers c.min.result c.args.temps.now (omega arith)) (record { ends = p.ends; stands = grind (arith, p.stands); short = p.short })

@@ -5,4 +5,4 @@ use Rattle.job_run.proofs.record.refuse.Goals as goal
 
 pub returns : goal.returns
 unfolding refused_run
-returns c = rw c.end_job.ensures (gives_lines _ _ _ _ _ c.refusal_line-length.ensures)
+returns c = rw (c.end_job.ensures, ← c.number.ensures) (gives_lines _ _ _ _ _ c.refusal_line-length.ensures)

@@ -9,7 +9,7 @@ pub returns-in-Ok : goal.returns-in-Ok
 returns-in-Ok c =
     let t = c.args.t in
     let f : fixed_by c.cylinder.result (placed_heaters t.heaters t.fitted) ≡ fixed_in t = rw c.cylinder.ensures in
-    rw c.of.ensures (step_accepted t _ _ _ f _ _ _ c.no_notes-notes.ensures _ c.in-Ok.ensures)
+    rw c.accepted-stepped.ensures (step_accepted t _ _ _ f _ _ _ c.no_notes-notes.ensures _ c.in-Ok.ensures)
 
 pub returns-in-Err : goal.returns-in-Err
 returns-in-Err c =

@@ -6,4 +6,4 @@ pub returns : goal.returns
 unfolding step_history
 returns c =
     let told = c.told_step-told.ensures in
-    record { steps = told.steps; prints = rw (← told.steps, ← told.turns.tells) c.history_lines-length.ensures }
+    record { steps = told.steps; prints = rw (← told.steps, ← told.turns.tells, ← c.number_in.ensures) c.history_lines-length.ensures }
